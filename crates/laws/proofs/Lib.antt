@@ -1,0 +1,5 @@
+pub mod SumLaws
+pub mod TestLaws
+pub mod ListLaws
+pub mod LcmLaws
+pub mod OrderLaws

@@ -1,0 +1,80 @@
+-- Laws of lists made from a rule, and of the first place at which a rule gives a number that is not 0.
+-- Assumes nothing.
+use Prim.Native.Nat.{ℕ, zero, suc, _+_, _≤_, _<_}
+use native.Mathlib.Omega.{arith}
+use native.Mathlib.Decide.{ℕ-discrete}
+use mathlib.Core.Path.{_≡_, refl, sym, ap, _∙_}
+use mathlib.Core.Logic.{_≢_, ⊎-elim}
+use lib.ListN.{length, getD}
+use Rattle.laws.specs.Lists.{tab, orLater, seek, firstOf}
+use Rattle.laws.proofs.SumLaws.{gate-lt, gate-ge, lt-or-ge}
+
+module _ {A : Type 0} where
+  -- a list of n made from a rule has n places
+  pub tab-length : (n : ℕ) (g : ℕ → A) → length (tab n g) ≡ n
+  unfolding tab
+  tab-length zero g = refl
+  tab-length (suc n) g = ap suc (tab-length n (λ k. g (suc k)))
+
+  -- and at each what the rule gives
+  pub tab-at : (n : ℕ) (g : ℕ → A) (k : ℕ) (a : A) → k < n → getD (tab n g) k a ≡ g k
+  unfolding tab
+  tab-at zero g k a l = absurd (omega arith)
+  tab-at (suc n) g zero a l = refl
+  tab-at (suc n) g (suc k) a l = tab-at n (λ j. g (suc j)) k a (omega arith)
+
+  -- rules that agree below n make the same list
+  pub tab-same : (n : ℕ) (g h : ℕ → A) → ((k : ℕ) → k < n → g k ≡ h k) → tab n g ≡ tab n h
+  unfolding tab
+  tab-same zero g h e = refl
+  tab-same (suc n) g h e = rw (e 0 (omega arith), tab-same n (λ k. g (suc k)) (λ k. h (suc k)) (λ k l. e (suc k) (omega arith)))
+
+-- rules that agree below n find the same place
+pub seek-same : (n : ℕ) (g h : ℕ → ℕ) → ((k : ℕ) → k < n → g k ≡ h k) → seek n g ≡ seek n h
+unfolding seek
+seek-same zero g h e = refl
+seek-same (suc n) g h e = rw (e 0 (omega arith), seek-same n (λ k. g (suc k)) (λ k. h (suc k)) (λ k l. e (suc k) (omega arith)))
+
+-- the place that is found is the first at which g is not 0
+pub seek-is : (n i : ℕ) (g : ℕ → ℕ) → i < n → ((k : ℕ) → k < i → g k ≡ 0) → g i ≢ 0 → seek n g ≡ i
+unfolding seek
+seek-is zero i g l none x = absurd (omega arith)
+seek-is (suc n) zero g l none x = stays (g 0) x
+  where
+    stays : (y : ℕ) → y ≢ 0 → orLater y (suc (seek n (λ k. g (suc k)))) ≡ 0
+    stays zero h = absurd (h refl)
+    stays (suc y) h = refl
+seek-is (suc n) (suc i) g l none x =
+    rw (none 0 (omega arith)) (ap suc (seek-is n i (λ k. g (suc k)) (omega arith) (λ k m. none (suc k) (omega arith)) x))
+
+-- where g is 0 throughout none is found
+pub seek-none : (n : ℕ) (g : ℕ → ℕ) → ((k : ℕ) → k < n → g k ≡ 0) → seek n g ≡ n
+unfolding seek
+seek-none zero g none = refl
+seek-none (suc n) g none = rw (none 0 (omega arith)) (ap suc (seek-none n (λ k. g (suc k)) (λ k m. none (suc k) (omega arith))))
+
+-- the first that is not 0
+pub first-is : (n i : ℕ) (g : ℕ → ℕ) → i < n → ((k : ℕ) → k < i → g k ≡ 0) → g i ≢ 0 → firstOf n g ≡ g i
+first-is n i g l none x = rw (seek-is n i g l none x) (gate-lt i n (g i) l)
+
+-- there is none
+pub first-none : (n : ℕ) (g : ℕ → ℕ) → ((k : ℕ) → k < n → g k ≡ 0) → firstOf n g ≡ 0
+first-none n g none = rw (seek-none n g none) (gate-ge n n (g n) (omega arith))
+
+-- where the first is 0 there is none
+pub first-zero : (n : ℕ) (g : ℕ → ℕ) → firstOf n g ≡ 0 → (k : ℕ) → k < n → g k ≡ 0
+first-zero n g e k l = go (suc k) l k (omega arith)
+  where
+    go : (i : ℕ) → i ≤ n → (k : ℕ) → k < i → g k ≡ 0
+    go zero m k l = absurd (omega arith)
+    go (suc i) m k l = elim (ℕ-discrete (g i) 0) [
+      | yes z ↦ elim (ℕ-discrete k i) [ yes q ↦ ap g q ∙ z | no y ↦ go i (omega arith) k (omega arith) ]
+      | no x ↦ absurd (x (sym (first-is n i g m (go i (omega arith)) x) ∙ e))
+    ]
+
+-- rules that agree below n have the same first
+pub first-same : (n : ℕ) (g h : ℕ → ℕ) → ((k : ℕ) → k < n → g k ≡ h k) → firstOf n g ≡ firstOf n h
+first-same n g h e = ⊎-elim
+    (λ l. rw (seek-same n g h e, e (seek n h) l))
+    (λ l. gate-ge (seek n g) n _ (rw (seek-same n g h e) l) ∙ sym (gate-ge (seek n h) n _ l))
+    (lt-or-ge (seek n h) n)

@@ -1,0 +1,34 @@
+-- Lists of numbers by their places, lists made from a rule, and the first place at which a rule gives a number that is not 0.
+-- Assumes nothing.
+use Prim.Native.Nat.{ℕ, zero, suc}
+use mathlib.Core.List.{List, [], _∷_, _++_}
+use lib.Dec.{ltb}
+use lib.ListN.{length, drop, getD}
+use Rattle.laws.specs.Sum.{gate}
+
+-- the number at place k of a list, from 0; 0 behind its end
+abbrev pub nth : List ℕ → ℕ → ℕ
+nth s k = getD s k 0
+
+-- g 0, g 1, .., g (n - 1)
+unfoldable pub tab : {A : Type 0} → ℕ → (ℕ → A) → List A
+tab zero g = []
+tab (suc n) g = g 0 ∷ tab n (λ k. g (suc k))
+
+-- s written over the start of a list
+unfoldable pub over : List ℕ → List ℕ → List ℕ
+over s t = s ++ drop (length s) t
+
+-- 0 where x is not 0, else y
+abbrev pub orLater : ℕ → ℕ → ℕ
+orLater zero y = y
+orLater (suc x) y = 0
+
+-- the first k below n at which g is not 0, or n
+unfoldable pub seek : ℕ → (ℕ → ℕ) → ℕ
+seek zero g = 0
+seek (suc n) g = orLater (g 0) (suc (seek n (λ k. g (suc k))))
+
+-- the first of g 0, g 1, .., g (n - 1) that is not 0, or 0
+abbrev pub firstOf : ℕ → (ℕ → ℕ) → ℕ
+firstOf n g = gate (ltb (seek n g) n) (g (seek n g))

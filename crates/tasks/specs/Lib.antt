@@ -1,0 +1,4 @@
+pub mod Task
+pub mod Refusal
+pub mod Window
+pub mod Instance

@@ -1,0 +1,87 @@
+-- Refusals 1 to 8, in 01's order; 0 where there is none.
+-- Assumes nothing.
+use Prim.Native.Nat.{ℕ, suc, _≤_, _<_}
+use mathlib.Core.Path.{_≡_}
+use mathlib.Core.Bool.{Bool, true, false, cond, _&&_}
+use mathlib.Core.List.{List}
+use lib.Dec.{leb, ltb, eqb}
+use lib.ListN.{length}
+use Rattle.laws.specs.Tests.{all}
+use Rattle.laws.specs.Lists.{nth, firstOf}
+use Rattle.laws.specs.Lcm.{lcmsOf}
+use Rattle.tasks.specs.declared.Rates.{Rates}
+use Rattle.tasks.specs.declared.Task.{Task}
+use Rattle.tasks.specs.declared.Length.{Length}
+use Rattle.tasks.specs.declared.Length.the-variants.{Fits, TooLong}
+use Rattle.tasks.specs.declared.Soundness.{Soundness}
+use Rattle.tasks.specs.declared.Soundness.the-variants.{Sound, Refused}
+use Rattle.tasks.specs.Task.{task}
+
+-- low..high
+unfoldable pub within : ℕ → ℕ → ℕ → Bool
+within low high x = leb low x && leb x high
+
+-- refusal k unless the test passes, then what comes after
+abbrev pub unless : Bool → ℕ → ℕ → ℕ
+unless true k next = next
+unless false k next = k
+
+-- x, or the next where x is 0
+abbrev pub orNext : ℕ → ℕ → ℕ
+orNext x next = cond (eqb x 0) next x
+
+-- rates 0..15 each, and 0 beyond the board's last core
+unfoldable pub ratesFit : ℕ → Rates → Bool
+ratesFit m r = all 4 (λ j. leb (nth (r .0) j) (cond (ltb j m) 15 0))
+
+-- within a task 3 to 7: period T 1..1024, deadline D 1..T, work C 1..4096, offset O 0..1023, rates
+unfoldable pub taskRefusal : ℕ → Task → ℕ
+taskRefusal m τ =
+    unless (within 1 1024 (τ .period .0)) 3
+    (unless (within 1 (τ .period .0) (τ .deadline .0)) 4
+    (unless (within 1 4096 (τ .work .0)) 5
+    (unless (within 0 1023 (τ .offset .0)) 6
+    (unless (ratesFit m (τ .rates)) 7 0))))
+
+-- task by task in number order
+unfoldable pub listRefusal : ℕ → List Task → ℕ
+listRefusal m ts = firstOf (length ts) (λ k. taskRefusal m (task ts (suc k)))
+
+-- H, the least common multiple of all periods
+unfoldable pub tableLength : List Task → ℕ
+tableLength ts = lcmsOf (length ts) (λ k. task ts (suc k) .period .0)
+
+-- 1 no task or over 16; 2 cores not 1..4; 3 to 7 task by task; 8 H over 1024
+unfoldable pub refusal : ℕ → List Task → ℕ
+refusal m ts =
+    unless (within 1 16 (length ts)) 1
+    (unless (within 1 4 m) 2
+    (orNext (listRefusal m ts)
+    (unless (leb (tableLength ts) 1024) 8 0)))
+
+-- a list is sound if none of 1 to 8 refuses it
+abbrev pub IsSound : ℕ → List Task → Type 0
+IsSound m ts = refusal m ts ≡ 0
+
+-- the table's length, or that it is over 1024
+abbrev pub fitsIf : Bool → ℕ → Length
+fitsIf true h = Fits (record { 0 = h })
+fitsIf false h = TooLong
+
+unfoldable pub lengthOf : List Task → Length
+lengthOf ts = fitsIf (leb (tableLength ts) 1024) (tableLength ts)
+
+-- what the code answers of a list: sound, with its table's length, or its refusal
+abbrev pub soundIf : ℕ → ℕ → Soundness
+soundIf r h = pick (eqb r 0)
+  where
+    pick : Bool → Soundness
+    pick true = Sound (record { 0 = h })
+    pick false = Refused r
+
+unfoldable pub soundnessOf : ℕ → List Task → Soundness
+soundnessOf m ts = soundIf (refusal m ts) (tableLength ts)
+
+-- each period is 1..1024
+abbrev pub Periods : List Task → Type 0
+Periods ts = (k : ℕ) → k < length ts → (0 < task ts (suc k) .period .0) × (task ts (suc k) .period .0 ≤ 1024)
