@@ -22,12 +22,12 @@ unfoldable pub within : ℕ → ℕ → ℕ → Bool
 within low high x = leb low x && leb x high
 
 -- refusal k unless the test passes, then what comes after
-abbrev pub unless : Bool → ℕ → ℕ → ℕ
+unfoldable pub unless : Bool → ℕ → ℕ → ℕ
 unless true k next = next
 unless false k next = k
 
 -- x, or the next where x is 0
-abbrev pub orNext : ℕ → ℕ → ℕ
+unfoldable pub orNext : ℕ → ℕ → ℕ
 orNext x next = cond (eqb x 0) next x
 
 -- rates 0..15 each, and 0 beyond the board's last core
@@ -72,15 +72,12 @@ unfoldable pub lengthOf : List Task → Length
 lengthOf ts = fitsIf (leb (tableLength ts) 1024) (tableLength ts)
 
 -- what the code answers of a list: sound, with its table's length, or its refusal
-abbrev pub soundIf : ℕ → ℕ → Soundness
-soundIf r h = pick (eqb r 0)
-  where
-    pick : Bool → Soundness
-    pick true = Sound (record { 0 = h })
-    pick false = Refused r
+abbrev pub soundIf : Bool → ℕ → ℕ → Soundness
+soundIf true r h = Sound (record { 0 = h })
+soundIf false r h = Refused r
 
 unfoldable pub soundnessOf : ℕ → List Task → Soundness
-soundnessOf m ts = soundIf (refusal m ts) (tableLength ts)
+soundnessOf m ts = soundIf (eqb (refusal m ts) 0) (refusal m ts) (tableLength ts)
 
 -- each period is 1..1024
 abbrev pub Periods : List Task → Type 0

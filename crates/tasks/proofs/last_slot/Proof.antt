@@ -1,40 +1,37 @@
+-- `tasks::last_slot` meets its contract: the closed form is the highest slot that is the job's.
+-- Assumes nothing.
+use native.Mathlib.Omega.{arith}
+use native.Mathlib.Nat.{lt-of-le-of-lt}
+use Rattle.tasks.proofs.WindowLaws.{pos-L, period-fits, end-fits, last-straight, last-round}
 use borrow.Author.Needs.{needs}
 use Rattle.tasks.proofs.last_slot.Statement.{statement}
 use Rattle.tasks.proofs.last_slot.Tie as tie
 use Rattle.tasks.proofs.last_slot.Reads as reads
 use Rattle.tasks.proofs.last_slot.Lts as lts
 
--- src/lib.rt:225:31
 mul-first : tie.Need-mul-first
-mul-first c = ?
+mul-first c = omega (arith, period-fits (c .before .pre .2) _ (c .before .pre .3))
 
--- src/lib.rt:225:18
 add-first : tie.Need-add-first
-add-first c = ?
+add-first c = omega (arith, period-fits (c .before .before .pre .2) _ (c .before .before .pre .3))
 
--- src/lib.rt:225:17
 rem-first : tie.Need-rem-first
-rem-first c = ?
+rem-first c = pos-L (c .before .before .before .pre .2)
 
--- src/lib.rt:226:15
 add-end : tie.Need-add-end
-add-end c = ?
+add-end c = record { fits = lt-of-le-of-lt (end-fits (c .before .before .before .before .pre .2) _ _) (omega arith) }
 
--- src/lib.rt:228:15
 sub-t10 : tie.Need-sub-t10
 sub-t10 c = search needs
 
--- src/lib.rt:230:15
 sub-t11 : tie.Need-sub-t11
-sub-t11 c = ?
+sub-t11 c = pos-L (c .before .before .before .before .before .before .before .pre .2)
 
--- src/lib.rt:221:1
 returns : tie.Need-returns
-returns c = ?
+returns c = last-straight (c .before .before .before .before .before .before .pre .2) _ _ (c .before .before .before .before .before .before .pre .3) (c .if1 .taken)
 
--- src/lib.rt:221:1
 returns-2 : tie.Need-returns-2
-returns-2 c = ?
+returns-2 c = last-round (c .before .before .before .before .before .before .before .pre .2) _ _ (c .before .before .before .before .before .before .before .pre .3) (c .before .if1 .left)
 
 pub last-slot-spec : {M : Type 1} → statement M
 last-slot-spec =

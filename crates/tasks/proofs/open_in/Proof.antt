@@ -1,3 +1,6 @@
+-- `tasks::open_in` meets its contract: the test on the place is the definition's.
+-- Assumes nothing.
+use Rattle.tasks.proofs.AnswerLaws.{window-open, window-closed}
 use borrow.Author.Needs.{needs}
 use Rattle.tasks.proofs.open_in.Statement.{statement}
 use Rattle.tasks.proofs.open_in.Tie as tie
@@ -5,25 +8,20 @@ use Rattle.tasks.proofs.open_in.Reads as reads
 use Rattle.tasks.proofs.open_in.Lts as lts
 use Rattle.tasks.proofs.place.Reads as place-reads
 
--- src/lib.rt:212:9
 place-requires : tie.Need-place-requires
 place-requires c κs = search needs
 
--- src/lib.rt:213:8
 rem-if1 : tie.Need-rem-if1
 rem-if1 c = search needs
 
--- src/lib.rt:214:22
 div-t8 : tie.Need-div-t8
 div-t8 c = search needs
 
--- src/lib.rt:208:1
 returns : tie.Need-returns
-returns c = ?
+returns c = window-open _ _ _ _ (c .before .before .before .before .before .before .place .ensures) (c .before .before .if1 .taken)
 
--- src/lib.rt:208:1
 returns-2 : tie.Need-returns-2
-returns-2 c = ?
+returns-2 c = window-closed _ _ _ _ (c .before .before .before .before .place .ensures) (c .if1 .left)
 
 pub open-in-spec : {M : Type 1} → statement M
 open-in-spec = tie.close (tie.spec place-requires rem-if1 div-t8 returns returns-2)

@@ -1,45 +1,53 @@
+-- `tasks::rates_fit` meets its contract. The loop's invariant: no rate passed is over the most. The measure is what is left of the four.
+-- Assumes nothing.
+use Prim.Native.Nat.{ℕ, _-_, _≤_, _<_}
+use mathlib.Core.Path.{_≡_, subst}
+use mathlib.Core.Logic.{⊎-elim}
+use mathlib.Core.Bool.{cond}
+use native.Mathlib.Omega.{arith}
+use lib.Dec.{ltb}
+use borrow.Author.Count.{below-none, below-more}
+use borrow.Author.Needs.{needs}
+use Rattle.laws.specs.Lists.{nth}
+use Rattle.tasks.proofs.AnswerLaws.{most-within, most-beyond, rates-over, rates-under}
 use Rattle.tasks.proofs.rates_fit.Statement.{statement}
 use Rattle.tasks.proofs.rates_fit.Tie as tie
 use Rattle.tasks.proofs.rates_fit.Reads as reads
 use Rattle.tasks.proofs.rates_fit.Lts as lts
 
 abbrev Inv-loop : tie.InvT-loop
-Inv-loop m row j₀ j = ?
+Inv-loop m row j₀ j = (j ≤ 4) × ((k : ℕ) → k < j → nth row k ≤ cond (ltb k m) 15 0)
 
 abbrev μ-loop : tie.MeasureT-loop
-μ-loop m row j₀ j = ?
+μ-loop m row j₀ j = 4 - j
 
--- src/lib.rt:92:5
 loop-holds : tie.Need-loop-holds Inv-loop μ-loop
-loop-holds c = ?
+loop-holds c = (omega arith, below-none _)
 
--- src/lib.rt:94:23
 cast-if2 : tie.Need-cast-if2 Inv-loop μ-loop
-cast-if2 c = ?
+cast-if2 c = search needs
 
--- src/lib.rt:94:19
 array-read-if2 : tie.Need-array-read-if2 Inv-loop μ-loop
-array-read-if2 c = ?
+array-read-if2 c = search needs
 
--- src/lib.rt:95:13
+-- the most that the code allows a rate
+most-is : (c : tie.Joined1 Inv-loop μ-loop) → c .if1 .most ≡ cond (ltb (c .before .before .loop .j) (c .before .before .before .before .args .m)) 15 0
+most-is c = ⊎-elim (λ w. most-within _ _ _ (w .0 .taken) (w .1)) (λ w. most-beyond _ _ _ (w .0 .left) (w .1)) (c .if1 .came)
+
 returns : tie.Need-returns Inv-loop μ-loop
-returns c = ?
+returns c = rates-over _ _ _ _ (omega arith) (most-is (c .before)) (c .if2 .taken)
 
--- src/lib.rt:97:9
 add-j : tie.Need-add-j Inv-loop μ-loop
-add-j c = ?
+add-j c = search needs
 
--- src/lib.rt:92:5
 loop-less : tie.Need-loop-less Inv-loop μ-loop
-loop-less c = ?
+loop-less c = search needs
 
--- src/lib.rt:92:5
 loop-again : tie.Need-loop-again Inv-loop μ-loop
-loop-again c = ?
+loop-again c = (omega arith, below-more _ _ (c .before .before .before .loop .inv .1) (subst (_≤_ _) (most-is (c .before)) (c .if2 .left)))
 
--- src/lib.rt:87:1
 returns-2 : tie.Need-returns-2 Inv-loop μ-loop
-returns-2 c = ?
+returns-2 c = rates-under _ _ (λ j l. c .before .loop .inv .1 j (omega arith))
 
 pub rates-fit-spec : {M : Type 1} → statement M
 rates-fit-spec =

@@ -1,3 +1,14 @@
+-- `tasks::table_length` meets its contract. The loop's invariant: h is the least common multiple of the periods passed, and at most 1024.
+-- The measure is what is left of the tasks. Assumes nothing.
+use Prim.Native.Nat.{ℕ, suc, _+_, _-_, _≤_, _<_}
+use mathlib.Core.Path.{_≡_, refl, sym, ap, _∙_}
+use native.Mathlib.Omega.{arith}
+use borrow.Author.Needs.{needs}
+use Rattle.laws.specs.Lcm.{lcmsOf}
+use Rattle.laws.proofs.LcmLaws.{lcms-next}
+use Rattle.tasks.specs.Task.{task, rows}
+use Rattle.tasks.proofs.SoundLaws.{rows-length}
+use Rattle.tasks.proofs.AnswerLaws.{length-next, length-over, length-done}
 use Rattle.tasks.proofs.table_length.Statement.{statement}
 use Rattle.tasks.proofs.table_length.Tie as tie
 use Rattle.tasks.proofs.table_length.Reads as reads
@@ -5,66 +16,60 @@ use Rattle.tasks.proofs.table_length.Lts as lts
 use Rattle.laws.proofs.lcm.Reads as lcm-reads
 
 abbrev Inv-loop : tie.InvT-loop
-Inv-loop list n h₀ i₀ h i = ?
+Inv-loop list n h₀ i₀ h i = (i ≤ n) × (h ≡ lcmsOf i (λ k. task (rows list) (suc k) .period .0)) × (h ≤ 1024)
 
 abbrev μ-loop : tie.MeasureT-loop
-μ-loop list n h₀ i₀ h i = ?
+μ-loop list n h₀ i₀ h i = n - i
 
--- src/lib.rt:153:13
 cast-n : tie.Need-cast-n Inv-loop μ-loop
-cast-n c = ?
+cast-n c = search needs
 
--- src/lib.rt:156:5
 loop-holds : tie.Need-loop-holds Inv-loop μ-loop
-loop-holds c = ?
+unfolding lcmsOf
+loop-holds c = (omega arith, refl, omega arith)
 
--- src/lib.rt:157:27
 cast-lcm : tie.Need-cast-lcm Inv-loop μ-loop
-cast-lcm c = ?
+cast-lcm c = search needs
 
--- src/lib.rt:157:37
 mul-lcm : tie.Need-mul-lcm Inv-loop μ-loop
-mul-lcm c = ?
+mul-lcm c = search needs
 
--- src/lib.rt:157:37
 element-copy-out-lcm : tie.Need-element-copy-out-lcm Inv-loop μ-loop
-element-copy-out-lcm c = ?
+element-copy-out-lcm c = search needs
 
--- src/lib.rt:157:37
 cast-lcm-2 : tie.Need-cast-lcm-2 Inv-loop μ-loop
-cast-lcm-2 c = ?
+cast-lcm-2 c = search needs
 
--- src/lib.rt:157:13
 lcm-requires : tie.Need-lcm-requires Inv-loop μ-loop
-lcm-requires c κs = ?
+lcm-requires c κs = search needs
 
--- src/lib.rt:158:13
 cast-if1 : tie.Need-cast-if1 Inv-loop μ-loop
-cast-if1 c = ?
+cast-if1 c = search needs
 
--- src/lib.rt:159:13
+-- the new h
+more : (c : tie.After-lcm Inv-loop μ-loop)
+    → c .lcm .result ≡ lcmsOf (c .before .before .before .loop .i + 1) (λ k. task (rows (c .before .before .before .before .args .t1)) (suc k) .period .0)
+more c = length-next _ _ _ _ (c .before .before .loop-test .taken) (c .before .before .before .loop .inv .1) (c .lcm .ensures)
+
 returns : tie.Need-returns Inv-loop μ-loop
-returns c = ?
+returns c =
+    length-over _ (c .before .before .before .before .loop .i + 1) _ (c .before .before .before .before .before .pre .1)
+    (omega (arith, rows-length (c .before .before .before .before .before .args .t1))) (more (c .before)) (c .if1 .taken)
 
--- src/lib.rt:161:13
 cast-h : tie.Need-cast-h Inv-loop μ-loop
-cast-h c = ?
+cast-h c = search needs
 
--- src/lib.rt:162:9
 add-i : tie.Need-add-i Inv-loop μ-loop
-add-i c = ?
+add-i c = search needs
 
--- src/lib.rt:156:5
 loop-less : tie.Need-loop-less Inv-loop μ-loop
-loop-less c = ?
+loop-less c = search needs
 
--- src/lib.rt:156:5
 loop-again : tie.Need-loop-again Inv-loop μ-loop
-loop-again c = ?
+loop-again c = (omega arith, more (c .before), omega arith)
 
--- src/lib.rt:149:1
 returns-2 : tie.Need-returns-2 Inv-loop μ-loop
-returns-2 c = ?
+returns-2 c = length-done _ _ _ (omega arith) (omega arith) (c .before .loop .inv .1) (c .before .loop .inv .2)
 
 pub table-length-spec : {M : Type 1} → statement M
 table-length-spec =

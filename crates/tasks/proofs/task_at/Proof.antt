@@ -1,76 +1,64 @@
+-- `tasks::task_at` meets its contract: four rates a task, and an index below 16 is below 64 four times over.
+-- Assumes nothing.
+use mathlib.Core.Path.{refl}
+use Rattle.tasks.specs.Task.{taskAt}
 use borrow.Author.Needs.{needs}
 use Rattle.tasks.proofs.task_at.Statement.{statement}
 use Rattle.tasks.proofs.task_at.Tie as tie
 use Rattle.tasks.proofs.task_at.Reads as reads
 use Rattle.tasks.proofs.task_at.Lts as lts
 
--- src/lib.rt:66:13
 mul-k : tie.Need-mul-k
 mul-k c = search needs
 
--- src/lib.rt:68:23
 mul-t5 : tie.Need-mul-t5
 mul-t5 c = search needs
 
--- src/lib.rt:68:23
 element-copy-out-t8 : tie.Need-element-copy-out-t8
 element-copy-out-t8 c = search needs
 
--- src/lib.rt:69:20
 mul-t10 : tie.Need-mul-t10
 mul-t10 c = search needs
 
--- src/lib.rt:69:20
 element-copy-out-t13 : tie.Need-element-copy-out-t13
 element-copy-out-t13 c = search needs
 
--- src/lib.rt:70:25
 mul-t15 : tie.Need-mul-t15
 mul-t15 c = search needs
 
--- src/lib.rt:70:25
 element-copy-out-t18 : tie.Need-element-copy-out-t18
 element-copy-out-t18 c = search needs
 
--- src/lib.rt:71:23
 mul-t20 : tie.Need-mul-t20
 mul-t20 c = search needs
 
--- src/lib.rt:71:23
 element-copy-out-t23 : tie.Need-element-copy-out-t23
 element-copy-out-t23 c = search needs
 
--- src/lib.rt:72:23
 element-copy-out-t27 : tie.Need-element-copy-out-t27
 element-copy-out-t27 c = search needs
 
--- src/lib.rt:72:49
 add-t28 : tie.Need-add-t28
 add-t28 c = search needs
 
--- src/lib.rt:72:38
 element-copy-out-t31 : tie.Need-element-copy-out-t31
 element-copy-out-t31 c = search needs
 
--- src/lib.rt:72:68
 add-t32 : tie.Need-add-t32
 add-t32 c = search needs
 
--- src/lib.rt:72:57
 element-copy-out-t35 : tie.Need-element-copy-out-t35
 element-copy-out-t35 c = search needs
 
--- src/lib.rt:72:87
 add-t36 : tie.Need-add-t36
 add-t36 c = search needs
 
--- src/lib.rt:72:76
 element-copy-out-t39 : tie.Need-element-copy-out-t39
 element-copy-out-t39 c = search needs
 
--- src/lib.rt:62:1
 returns : tie.Need-returns
-returns c = ?
+unfolding taskAt
+returns c = refl
 
 pub task-at-spec : {M : Type 1} → statement M
 task-at-spec =

@@ -1,14 +1,16 @@
+-- `tasks::work_in` meets its contract: 15 times 1024 fits.
+-- Assumes nothing.
+use native.Mathlib.Nat.{lt-of-le-of-lt, mul-le-mul}
+use lib.Dec.{lit<}
 use borrow.Author.Needs.{needs}
 use Rattle.tasks.proofs.work_in.Statement.{statement}
 use Rattle.tasks.proofs.work_in.Tie as tie
 use Rattle.tasks.proofs.work_in.Reads as reads
 use Rattle.tasks.proofs.work_in.Lts as lts
 
--- src/lib.rt:58:10
 mul-t5 : tie.Need-mul-t5
-mul-t5 c = ?
+mul-t5 c = record { fits = lt-of-le-of-lt (mul-le-mul (c .pre .0) (c .pre .1)) (lit< tt) }
 
--- src/lib.rt:53:1
 returns : tie.Need-returns
 returns c = search needs
 

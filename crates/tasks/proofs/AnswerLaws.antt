@@ -1,0 +1,185 @@
+-- What each answer of the code is by the definitions: tests of ranges and rates, refusals, lengths and windows.
+-- Assumes nothing.
+use Prim.Native.Nat.{ℕ, zero, suc, _+_, _/_, _%_, _≤_, _<_}
+use mathlib.Core.Path.{_≡_, refl, sym, ap, _∙_, subst}
+use mathlib.Core.Logic.{_≢_, _⊎_, ⊎-elim}
+use mathlib.Core.Bool.{Bool, true, false, cond, not, _&&_}
+use mathlib.Core.List.{List}
+use native.Mathlib.Omega.{arith}
+use native.Mathlib.Numerals.{add-one}
+use lib.Dec.{T, leb, ltb, eqb, leb→le, le→leb}
+use lib.ListN.{length}
+use borrow.Author.Tests.{lt-ltb, le-ltb, le-leb, lt-leb, eq-eqb, ne-eqb, not-true, not-false}
+use Rattle.laws.specs.Lists.{nth}
+use Rattle.laws.specs.Lcm.{lcmOf, lcmsOf}
+use Rattle.laws.proofs.ListLaws.{first-is, first-none}
+use Rattle.laws.proofs.TestLaws.{all-at, at-all}
+use Rattle.laws.proofs.LcmLaws.{lcms-mono, lcms-next}
+use Rattle.tasks.specs.declared.Slots.{Slots}
+use Rattle.tasks.specs.declared.Rates.{Rates}
+use Rattle.tasks.specs.declared.Task.{Task}
+use Rattle.tasks.specs.declared.TaskList.{TaskList}
+use Rattle.tasks.specs.declared.Length.{Length}
+use Rattle.tasks.specs.declared.Length.the-variants.{Fits, TooLong}
+use Rattle.tasks.specs.declared.Soundness.the-variants.{Sound, Refused}
+use Rattle.tasks.specs.declared.Window.the-variants.{Open, Closed}
+use Rattle.tasks.specs.Task.{task, taskAt, rows}
+use Rattle.tasks.specs.Refusal.{within, unless, orNext, ratesFit, taskRefusal, listRefusal, tableLength, refusal, fitsIf, lengthOf, soundIf, soundnessOf, Periods}
+use Rattle.tasks.specs.Window.{place, openIf, windowAt}
+use Rattle.tasks.proofs.SoundLaws.{rows-length, rows-task, within-is, list-range}
+
+-- ---- ranges and rates
+-- a number below its range
+pub within-low : (low high x : ℕ) → x < low → false ≡ within low high x
+unfolding within
+within-low low high x l = sym (ap (λ b. b && leb x high) (lt-leb low x l))
+
+-- one not below it
+pub within-high : (low high x : ℕ) → low ≤ x → leb x high ≡ within low high x
+unfolding within
+within-high low high x l = sym (ap (λ b. b && leb x high) (le-leb low x l))
+
+-- the most that the rate on a core of the board can be
+pub most-within : (j m most : ℕ) → j < m → most ≡ 15 → most ≡ cond (ltb j m) 15 0
+most-within j m most l e = e ∙ sym (ap (λ b. cond b 15 0) (lt-ltb j m l))
+
+-- and beyond its last core
+pub most-beyond : (j m most : ℕ) → m ≤ j → most ≡ 0 → most ≡ cond (ltb j m) 15 0
+most-beyond j m most l e = e ∙ sym (ap (λ b. cond b 15 0) (le-ltb j m l))
+
+-- a rate over the most
+pub rates-over : (m : ℕ) (r : Rates) (j most : ℕ) → j < 4 → most ≡ cond (ltb j m) 15 0 → most < nth (r .0) j → false ≡ ratesFit m r
+unfolding ratesFit
+rates-over m r j most l e over =
+    go (ratesFit m r) (λ t. omega (arith, leb→le (nth (r .0) j) (cond (ltb j m) 15 0) (all-at 4 (λ j. leb (nth (r .0) j) (cond (ltb j m) 15 0)) t j l)))
+  where
+    go : (b : Bool) → (T b → ⊥) → false ≡ b
+    go true x = absurd (x tt)
+    go false x = refl
+
+-- no rate is over it
+pub rates-under : (m : ℕ) (r : Rates) → ((j : ℕ) → j < 4 → nth (r .0) j ≤ cond (ltb j m) 15 0) → true ≡ ratesFit m r
+unfolding ratesFit
+rates-under m r h = go (ratesFit m r) (at-all 4 (λ j. leb (nth (r .0) j) (cond (ltb j m) 15 0)) (λ j l. le→leb _ _ (h j l)))
+  where
+    go : (b : Bool) → T b → true ≡ b
+    go true t = refl
+    go false t = absurd t
+
+-- ---- refusals, test by test
+-- r is the test b, and it failed
+pub refuses : (r b : Bool) (k next : ℕ) → r ≡ b → not r ≡ true → k ≡ unless b k next
+unfolding unless
+refuses r b k next e t = sym (ap (λ x. unless x k next) (sym e ∙ not-true r t))
+
+-- it passed, and x is what comes after
+pub goes-on : (r b : Bool) (x k next : ℕ) → r ≡ b → not r ≡ false → x ≡ next → x ≡ unless b k next
+unfolding unless
+goes-on r b x k next e t h = h ∙ sym (ap (λ x. unless x k next) (sym e ∙ not-false r t))
+
+-- r is the first refusal y
+pub or-first : (r y next : ℕ) → r ≡ y → r ≢ 0 → r ≡ orNext y next
+unfolding orNext
+or-first r y next e x = e ∙ sym (ap (λ b. cond b next y) (ne-eqb y 0 (λ z. x (e ∙ z))))
+
+-- there was none, and x is what comes after
+pub or-next : (r y x next : ℕ) → r ≡ y → r ≡ 0 → x ≡ next → x ≡ orNext y next
+unfolding orNext
+or-next r y x next e z h = h ∙ sym (ap (λ b. cond b next y) (eq-eqb y 0 (sym e ∙ z)))
+
+module _ (m : ℕ) (l : TaskList) where
+  -- the refusal of the task at place i, none before it being refused
+  pub list-refused : (i r : ℕ) (τ : Task) → i < l .n → ((k : ℕ) → k < i → taskRefusal m (taskAt l k) ≡ 0)
+      → τ ≡ taskAt l i → r ≡ taskRefusal m τ → r ≢ 0 → r ≡ listRefusal m (rows l)
+  unfolding listRefusal
+  list-refused i r τ h none t e x =
+      let at : (k : ℕ) → k < l .n → taskRefusal m (task (rows l) (suc k)) ≡ taskRefusal m (taskAt l k) = λ k q. ap (taskRefusal m) (rows-task l k q) in
+      let f : r ≡ taskRefusal m (task (rows l) (suc i)) = e ∙ ap (taskRefusal m) t ∙ sym (at i h) in
+      f ∙ sym (first-is _ i (λ k. taskRefusal m (task (rows l) (suc k))) (rw (rows-length l) h) (λ k q. at k (omega arith) ∙ none k q) (λ z. x (f ∙ z)))
+
+  -- none is refused
+  pub list-passed : (i : ℕ) → l .n ≤ i → ((k : ℕ) → k < i → taskRefusal m (taskAt l k) ≡ 0) → 0 ≡ listRefusal m (rows l)
+  unfolding listRefusal
+  list-passed i h none =
+      sym (first-none _ _ (λ k q. let b : k < l .n = rw (rows-length l) at q in ap (taskRefusal m) (rows-task l k b) ∙ none k (omega arith)))
+
+-- ---- lengths
+-- the period at place i of a list as numbers
+period-at : (l : TaskList) (i : ℕ) → i < l .n → nth (l .period) i ≡ task (rows l) (suc i) .period .0
+unfolding taskAt
+period-at l i h = sym (ap (λ τ. τ .period .0) (rows-task l i h))
+
+-- one turn of the loop: r is the least common multiple of h, that of the periods before place i, and the period there
+pub length-next : (l : TaskList) (i h r : ℕ) → i < l .n → h ≡ lcmsOf i (λ k. task (rows l) (suc k) .period .0) → r ≡ lcmOf h (nth (l .period) i)
+    → r ≡ lcmsOf (i + 1) (λ k. task (rows l) (suc k) .period .0)
+length-next l i h r b e f = lcms-next i _ h r e (f ∙ ap (lcmOf h) (period-at l i b))
+
+-- all periods passed, and the length fits
+pub length-done : (l : TaskList) (i h : ℕ) → i ≤ l .n → l .n ≤ i → h ≡ lcmsOf i (λ k. task (rows l) (suc k) .period .0) → h ≤ 1024
+    → Fits (record { 0 = h }) ≡ lengthOf (rows l)
+unfolding lengthOf tableLength
+length-done l i h a b e f =
+    let i-is : i ≡ length (rows l) = omega (arith, rows-length l) in
+    ap (λ b. fitsIf b h) (sym (le-leb h 1024 f)) ∙ ap (λ x. fitsIf (leb x 1024) x) (e ∙ ap (λ n. lcmsOf n (λ k. task (rows l) (suc k) .period .0)) i-is)
+
+-- a part of the periods is too long already
+pub length-over : (ts : List Task) (i h : ℕ) → Periods ts → i ≤ length ts → h ≡ lcmsOf i (λ k. task ts (suc k) .period .0) → 1024 < h → TooLong ≡ lengthOf ts
+unfolding lengthOf tableLength
+length-over ts i h all le e l =
+    let more = lcms-mono (length ts) i (λ k. task ts (suc k) .period .0) (λ k q. all k q .0) le in
+    ap (λ b. fitsIf b (tableLength ts)) (sym (lt-leb (tableLength ts) 1024 (omega arith)))
+
+-- ---- soundness
+-- the test of the number of tasks, on the list
+pub count-test : (l : TaskList) (r : Bool) → r ≡ within 1 16 (l .n) → r ≡ within 1 16 (length (rows l))
+count-test l r e = e ∙ ap (within 1 16) (sym (rows-length l))
+
+-- a number that passed the test of its range
+pub within-passed : (r : Bool) (low high x : ℕ) → r ≡ within low high x → not r ≡ false → (low ≤ x) × (x ≤ high)
+within-passed r low high x e t = within-is low high x (subst T (sym (sym e ∙ not-false r t)) tt)
+
+-- the periods of tasks that are not refused
+pub passed-periods : (m r : ℕ) (ts : List Task) → r ≡ listRefusal m ts → r ≡ 0 → Periods ts
+passed-periods m r ts e z k l = let t = list-range m ts (sym e ∙ z) (suc k) (omega arith) l in (t .period-pos, t .period-le)
+
+-- a length that is told fits: it is the table's, and no refusal
+pub length-told : (ts : List Task) (x : Length) (h : Slots) → x ≡ lengthOf ts → x ≡ Fits h
+    → (0 ≡ unless (leb (tableLength ts) 1024) 8 0) × (h .0 ≡ tableLength ts)
+unfolding lengthOf unless
+length-told ts x h e f = go (leb (tableLength ts) 1024) (sym e ∙ f)
+  where
+    go : (b : Bool) → fitsIf b (tableLength ts) ≡ Fits h → (0 ≡ unless b 8 0) × (h .0 ≡ tableLength ts)
+    go true e = (refl, cc)
+    go false e = let z : _≡_ {A = ℕ} 0 1 = cc in absurd (omega arith)
+
+-- and one that is too long is refusal 8
+pub length-refused : (ts : List Task) (x : Length) → x ≡ lengthOf ts → x ≡ TooLong → 8 ≡ unless (leb (tableLength ts) 1024) 8 0
+unfolding lengthOf unless
+length-refused ts x e f = go (leb (tableLength ts) 1024) (sym e ∙ f)
+  where
+    go : (b : Bool) → fitsIf b (tableLength ts) ≡ TooLong → 8 ≡ unless b 8 0
+    go true e = let z : _≡_ {A = ℕ} 0 1 = cc in absurd (omega arith)
+    go false e = refl
+
+-- a list that is not refused
+pub sound-answer : (m : ℕ) (ts : List Task) (h : Slots) → 0 ≡ refusal m ts → h .0 ≡ tableLength ts → Sound h ≡ soundnessOf m ts
+unfolding soundnessOf
+sound-answer m ts h e l = ap (λ x. Sound (record { 0 = x })) l ∙ ap (λ y. soundIf (eqb y 0) y (tableLength ts)) e
+
+-- one that is
+pub refused-answer : (m : ℕ) (ts : List Task) (r : ℕ) → r ≢ 0 → r ≡ refusal m ts → Refused r ≡ soundnessOf m ts
+unfolding soundnessOf
+refused-answer m ts r x e = ap (λ b. soundIf b r (tableLength ts)) (sym (ne-eqb r 0 x)) ∙ ap (λ y. soundIf (eqb y 0) y (tableLength ts)) e
+
+-- ---- windows
+-- what the test on a place p says, open
+pub window-open : (L t p : ℕ) (τ : Task) → p ≡ place L (τ .offset .0) t → p % τ .period .0 < τ .deadline .0 → Open (p / τ .period .0) ≡ windowAt L τ t
+unfolding windowAt
+window-open L t p τ e h =
+    ap (λ b. openIf b (p / τ .period .0)) (sym (lt-ltb _ _ h)) ∙ ap (λ x. openIf (ltb (x % τ .period .0) (τ .deadline .0)) (x / τ .period .0)) e
+
+-- and closed
+pub window-closed : (L t p : ℕ) (τ : Task) → p ≡ place L (τ .offset .0) t → τ .deadline .0 ≤ p % τ .period .0 → Closed ≡ windowAt L τ t
+unfolding windowAt
+window-closed L t p τ e h =
+    ap (λ b. openIf b (p / τ .period .0)) (sym (le-ltb _ _ h)) ∙ ap (λ x. openIf (ltb (x % τ .period .0) (τ .deadline .0)) (x / τ .period .0)) e

@@ -1,0 +1,3 @@
+pub mod WindowLaws
+pub mod SoundLaws
+pub mod AnswerLaws

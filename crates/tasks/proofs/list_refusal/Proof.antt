@@ -1,0 +1,71 @@
+-- `tasks::list_refusal` meets its contract. The loop's invariant: no task passed is refused. The measure is what is left of the tasks.
+-- Assumes nothing.
+use Prim.Native.Nat.{ℕ, _-_, _≤_, _<_}
+use mathlib.Core.Path.{_≡_, sym, ap, _∙_}
+use native.Mathlib.Omega.{arith}
+use borrow.Author.Count.{below-none, below-more}
+use borrow.Author.Needs.{needs}
+use Rattle.tasks.specs.Task.{taskAt}
+use Rattle.tasks.specs.Refusal.{taskRefusal}
+use Rattle.tasks.proofs.AnswerLaws.{list-refused, list-passed}
+use Rattle.tasks.proofs.list_refusal.Statement.{statement}
+use Rattle.tasks.proofs.list_refusal.Tie as tie
+use Rattle.tasks.proofs.list_refusal.Reads as reads
+use Rattle.tasks.proofs.list_refusal.Lts as lts
+use Rattle.tasks.proofs.task_at.Reads as task-at-reads
+use Rattle.tasks.proofs.task_refusal.Reads as task-refusal-reads
+
+abbrev Inv-loop : tie.InvT-loop
+Inv-loop list m n i₀ i = (i ≤ n) × ((k : ℕ) → k < i → taskRefusal m (taskAt list k) ≡ 0)
+
+abbrev μ-loop : tie.MeasureT-loop
+μ-loop list m n i₀ i = n - i
+
+cast-n : tie.Need-cast-n Inv-loop μ-loop
+cast-n c = search needs
+
+loop-holds : tie.Need-loop-holds Inv-loop μ-loop
+loop-holds c = (omega arith, below-none _)
+
+task-at-requires : tie.Need-task-at-requires Inv-loop μ-loop
+task-at-requires c κs = search needs
+
+task-refusal-requires : tie.Need-task-refusal-requires Inv-loop μ-loop
+task-refusal-requires c κs = search needs
+
+returns : tie.Need-returns Inv-loop μ-loop
+returns c =
+    list-refused _ _ _ _ _ (omega arith) (c .before .before .before .before .loop .inv .1) (c .before .before .task-at .ensures)
+    (c .before .task-refusal .ensures) (c .if1 .taken)
+
+add-i : tie.Need-add-i Inv-loop μ-loop
+add-i c = search needs
+
+loop-less : tie.Need-loop-less Inv-loop μ-loop
+loop-less c = search needs
+
+loop-again : tie.Need-loop-again Inv-loop μ-loop
+loop-again c = (
+  omega arith,
+  below-more _ _ (c .before .before .before .before .loop .inv .1)
+      (sym (ap (taskRefusal _) (c .before .before .task-at .ensures)) ∙ sym (c .before .task-refusal .ensures) ∙ c .if1 .left),
+)
+
+returns-2 : tie.Need-returns-2 Inv-loop μ-loop
+returns-2 c = list-passed _ _ _ (omega arith) (c .before .loop .inv .1)
+
+pub list-refusal-spec : {M : Type 1} → statement M
+list-refusal-spec =
+    tie.close
+    (tie.spec
+    Inv-loop
+    μ-loop
+    cast-n
+    loop-holds
+    task-at-requires
+    task-refusal-requires
+    returns
+    add-i
+    loop-less
+    loop-again
+    returns-2)

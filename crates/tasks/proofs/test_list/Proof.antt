@@ -1,0 +1,97 @@
+-- `tasks::test_list` meets its contract: its tests are the definition's, in 01's order.
+-- Assumes nothing.
+use native.Mathlib.Omega.{arith}
+use Rattle.tasks.specs.Refusal.{refusal}
+use Rattle.tasks.proofs.AnswerLaws.{refuses, goes-on, or-first, or-next, count-test, within-passed, passed-periods, length-told, length-refused, sound-answer, refused-answer}
+use borrow.Author.Needs.{needs}
+use Rattle.tasks.proofs.test_list.Statement.{statement}
+use Rattle.tasks.proofs.test_list.Tie as tie
+use Rattle.tasks.proofs.test_list.Reads as reads
+use Rattle.tasks.proofs.test_list.Lts as lts
+use Rattle.tasks.proofs.list_refusal.Reads as list-refusal-reads
+use Rattle.tasks.proofs.table_length.Reads as table-length-reads
+use Rattle.tasks.proofs.within.Reads as within-reads
+
+cast-within : tie.Need-cast-within
+cast-within c = search needs
+
+cast-within-2 : tie.Need-cast-within-2
+cast-within-2 c = search needs
+
+within-requires : tie.Need-within-requires
+within-requires c κs = search needs
+
+returns : tie.Need-returns
+unfolding refusal
+returns c = refused-answer _ _ _ (λ z. omega arith) (refuses _ _ _ _ (count-test _ _ (c .before .within .ensures)) (c .if1 .taken))
+
+cast-within-3 : tie.Need-cast-within-3
+cast-within-3 c = search needs
+
+within-requires-2 : tie.Need-within-requires-2
+within-requires-2 c κs = search needs
+
+returns-2 : tie.Need-returns-2
+unfolding refusal
+returns-2 c = refused-answer _ _ _ (λ z. omega arith)
+    (goes-on _ _ _ _ _ (count-test _ _ (c .before .before .before .within .ensures)) (c .before .before .if1 .left)
+    (refuses _ _ _ _ (c .before .within2 .ensures) (c .if2 .taken)))
+
+list-refusal-requires : tie.Need-list-refusal-requires
+list-refusal-requires c κs = within-passed _ _ _ _ (c .before .before .before .within .ensures) (c .before .before .if1 .left) .1
+
+returns-3 : tie.Need-returns-3
+unfolding refusal
+returns-3 c = refused-answer _ _ _ (c .if3 .taken)
+    (goes-on _ _ _ _ _ (count-test _ _ (c .before .before .before .before .before .within .ensures)) (c .before .before .before .before .if1 .left)
+    (goes-on _ _ _ _ _ (c .before .before .before .within2 .ensures) (c .before .before .if2 .left)
+    (or-first _ _ _ (c .before .list-refusal .ensures) (c .if3 .taken))))
+
+table-length-requires : tie.Need-table-length-requires
+table-length-requires c κs = (
+  within-passed _ _ _ _ (c .before .before .before .before .before .within .ensures) (c .before .before .before .before .if1 .left) .1,
+  passed-periods _ _ _ (c .before .list-refusal .ensures) (c .if3 .left),
+)
+
+enum-known-length : tie.Need-enum-known-length
+enum-known-length c = search needs
+
+enum-told : tie.Need-enum-told
+enum-told c = search needs
+
+returns-4 : tie.Need-returns-4
+unfolding refusal
+returns-4 c =
+    let told = length-told _ _ _ (c .before .before .before .table-length .ensures) (c .before .length .given .1) in
+    sound-answer _ _ _
+    (goes-on _ _ _ _ _ (count-test _ _ (c .before .before .before .before .before .before .before .before .before .within .ensures)) (c .before .before .before .before .before .before .before .before .if1 .left)
+    (goes-on _ _ _ _ _ (c .before .before .before .before .before .before .before .within2 .ensures) (c .before .before .before .before .before .before .if2 .left)
+    (or-next _ _ _ _ (c .before .before .before .before .before .list-refusal .ensures) (c .before .before .before .before .if3 .left) (told .0)))) (told .1)
+
+returns-5 : tie.Need-returns-5
+unfolding refusal
+returns-5 c =
+    refused-answer _ _ _ (λ z. omega arith)
+    (goes-on _ _ _ _ _ (count-test _ _ (c .before .before .before .before .before .before .before .before .within .ensures)) (c .before .before .before .before .before .before .before .if1 .left)
+    (goes-on _ _ _ _ _ (c .before .before .before .before .before .before .within2 .ensures) (c .before .before .before .before .before .if2 .left)
+    (or-next _ _ _ _ (c .before .before .before .before .list-refusal .ensures) (c .before .before .before .if3 .left)
+    (length-refused _ _ (c .before .before .table-length .ensures) (c .enum-told .given .1)))))
+
+pub test-list-spec : {M : Type 1} → statement M
+test-list-spec =
+    tie.close
+    (tie.spec
+    cast-within
+    cast-within-2
+    within-requires
+    returns
+    cast-within-3
+    within-requires-2
+    returns-2
+    list-refusal-requires
+    returns-3
+    table-length-requires
+    enum-known-length
+    enum-told
+    returns-4
+    returns-5)
