@@ -1,19 +1,18 @@
 -- What each answer of the code is by the definitions: tests of ranges and rates, refusals, lengths and windows.
 -- Assumes nothing.
-use Prim.Native.Nat.{ℕ, zero, suc, _+_, _/_, _%_, _≤_, _<_}
+use Prim.Native.Nat.{ℕ, suc, _+_, _/_, _%_, _≤_, _<_}
 use mathlib.Core.Path.{_≡_, refl, sym, ap, _∙_, subst}
-use mathlib.Core.Logic.{_≢_, _⊎_, ⊎-elim}
+use mathlib.Core.Logic.{_≢_}
 use mathlib.Core.Bool.{Bool, true, false, cond, not, _&&_}
 use mathlib.Core.List.{List}
 use native.Mathlib.Omega.{arith}
-use native.Mathlib.Numerals.{add-one}
-use lib.Dec.{T, leb, ltb, eqb, leb→le, le→leb}
+use lib.Dec.{T, leb, ltb, eqb, le→leb}
 use lib.ListN.{length}
 use borrow.Author.Tests.{lt-ltb, le-ltb, le-leb, lt-leb, eq-eqb, ne-eqb, not-true, not-false}
 use Rattle.laws.specs.Lists.{nth}
 use Rattle.laws.specs.Lcm.{lcmOf, lcmsOf}
 use Rattle.laws.proofs.ListLaws.{first-is, first-none}
-use Rattle.laws.proofs.TestLaws.{all-at, at-all}
+use Rattle.laws.proofs.TestLaws.{at-all}
 use Rattle.laws.proofs.LcmLaws.{lcms-mono, lcms-next}
 use Rattle.tasks.specs.declared.Slots.{Slots}
 use Rattle.tasks.specs.declared.Rates.{Rates}
@@ -24,9 +23,9 @@ use Rattle.tasks.specs.declared.Length.the-variants.{Fits, TooLong}
 use Rattle.tasks.specs.declared.Soundness.the-variants.{Sound, Refused}
 use Rattle.tasks.specs.declared.Window.the-variants.{Open, Closed}
 use Rattle.tasks.specs.Task.{task, taskAt, rows}
-use Rattle.tasks.specs.Refusal.{within, unless, orNext, ratesFit, taskRefusal, listRefusal, tableLength, refusal, fitsIf, lengthOf, soundIf, soundnessOf, Periods}
+use Rattle.tasks.specs.Refusal.{mostRate, within, unless, orNext, ratesFit, taskRefusal, listRefusal, tableLength, refusal, fitsIf, lengthOf, soundIf, soundnessOf, Periods}
 use Rattle.tasks.specs.Window.{place, openIf, windowAt}
-use Rattle.tasks.proofs.SoundLaws.{rows-length, rows-task, within-is, list-range}
+use Rattle.tasks.proofs.SoundLaws.{rows-length, rows-task, rates-at, within-is, list-range}
 
 -- ---- ranges and rates
 -- a number below its range
@@ -39,28 +38,26 @@ pub within-high : (low high x : ℕ) → low ≤ x → leb x high ≡ within low
 unfolding within
 within-high low high x l = sym (ap (λ b. b && leb x high) (le-leb low x l))
 
--- the most that the rate on a core of the board can be
-pub most-within : (j m most : ℕ) → j < m → most ≡ 15 → most ≡ cond (ltb j m) 15 0
+-- the most that a rate may be on a core of the board
+pub most-within : (j m most : ℕ) → j < m → most ≡ 15 → most ≡ mostRate m j
 most-within j m most l e = e ∙ sym (ap (λ b. cond b 15 0) (lt-ltb j m l))
 
 -- and beyond its last core
-pub most-beyond : (j m most : ℕ) → m ≤ j → most ≡ 0 → most ≡ cond (ltb j m) 15 0
+pub most-beyond : (j m most : ℕ) → m ≤ j → most ≡ 0 → most ≡ mostRate m j
 most-beyond j m most l e = e ∙ sym (ap (λ b. cond b 15 0) (le-ltb j m l))
 
 -- a rate over the most
-pub rates-over : (m : ℕ) (r : Rates) (j most : ℕ) → j < 4 → most ≡ cond (ltb j m) 15 0 → most < nth (r .0) j → false ≡ ratesFit m r
-unfolding ratesFit
-rates-over m r j most l e over =
-    go (ratesFit m r) (λ t. omega (arith, leb→le (nth (r .0) j) (cond (ltb j m) 15 0) (all-at 4 (λ j. leb (nth (r .0) j) (cond (ltb j m) 15 0)) t j l)))
+pub rates-over : (m : ℕ) (r : Rates) (j most : ℕ) → j < 4 → most ≡ mostRate m j → most < nth (r .0) j → false ≡ ratesFit m r
+rates-over m r j most l e over = go (ratesFit m r) (λ t. omega (arith, rates-at m r t j l))
   where
     go : (b : Bool) → (T b → ⊥) → false ≡ b
     go true x = absurd (x tt)
     go false x = refl
 
 -- no rate is over it
-pub rates-under : (m : ℕ) (r : Rates) → ((j : ℕ) → j < 4 → nth (r .0) j ≤ cond (ltb j m) 15 0) → true ≡ ratesFit m r
+pub rates-under : (m : ℕ) (r : Rates) → ((j : ℕ) → j < 4 → nth (r .0) j ≤ mostRate m j) → true ≡ ratesFit m r
 unfolding ratesFit
-rates-under m r h = go (ratesFit m r) (at-all 4 (λ j. leb (nth (r .0) j) (cond (ltb j m) 15 0)) (λ j l. le→leb _ _ (h j l)))
+rates-under m r h = go (ratesFit m r) (at-all 4 (λ j. leb (nth (r .0) j) (mostRate m j)) (λ j l. le→leb _ _ (h j l)))
   where
     go : (b : Bool) → T b → true ≡ b
     go true t = refl

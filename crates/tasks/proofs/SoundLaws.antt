@@ -1,27 +1,28 @@
 -- What a sound list has: its ranges, task by task, the length of its table, and jobs that are the table's. Laws of lists as numbers, too.
 -- Assumes nothing.
-use Prim.Native.Nat.{ℕ, zero, suc, _/_, _≤_, _<_, _∣_, pred}
-use mathlib.Core.Path.{_≡_, refl, sym, ap, _∙_, subst}
-use mathlib.Core.Logic.{_≢_, _↔_}
-use mathlib.Core.Bool.{Bool, true, false, cond, _&&_}
+use Prim.Native.Nat.{ℕ, zero, suc, _/_, _≤_, _<_, _∣_}
+use mathlib.Core.Path.{_≡_, refl, sym, ap, subst}
+use mathlib.Core.Logic.{_≢_}
+use mathlib.Core.Bool.{Bool, true, false, cond}
 use mathlib.Core.List.{List}
 use native.Mathlib.Omega.{arith}
 use lib.Dec.{T, leb, ltb, eqb, leb→le, eqb·suc-zero}
 use lib.ListN.{length}
-use borrow.Author.Tests.{lt-ltb, le-ltb}
+use borrow.Author.Tests.{le-ltb}
 use Rattle.laws.specs.Lists.{nth}
 use Rattle.laws.specs.Lcm.{IsLcms}
 use Rattle.laws.proofs.ListLaws.{tab-length, tab-at, first-zero}
 use Rattle.laws.proofs.TestLaws.{all-at}
 use Rattle.laws.proofs.LcmLaws.{lcms-of, lcms-divides, dvd-whole}
 use Rattle.tasks.specs.declared.Slots.{Slots}
+use Rattle.tasks.specs.declared.Rates.{Rates}
 use Rattle.tasks.specs.declared.Task.{Task}
 use Rattle.tasks.specs.declared.TaskList.{TaskList}
 use Rattle.tasks.specs.declared.Soundness.the-variants.{Sound, Refused}
 use Rattle.tasks.specs.Task.{rate, noTask, task, taskAt, rows}
-use Rattle.tasks.specs.Refusal.{within, unless, orNext, ratesFit, taskRefusal, listRefusal, tableLength, refusal, IsSound, soundIf, soundnessOf}
+use Rattle.tasks.specs.Refusal.{mostRate, within, unless, orNext, ratesFit, taskRefusal, listRefusal, tableLength, refusal, IsSound, soundIf, soundnessOf}
 use Rattle.tasks.specs.Window.{Cyclic}
-use Rattle.tasks.specs.Instance.{Instance, instanceOf, Regular}
+use Rattle.tasks.specs.Instance.{instanceOf, Regular}
 use Rattle.tasks.proofs.WindowLaws.{both, job-lt}
 
 -- ---- lists as numbers
@@ -63,13 +64,17 @@ pub record InRange (m : ℕ) (τ : Task) : Type 0 where
   pub rate-le : (j : ℕ) → j < 4 → rate τ j ≤ 15
   pub rate-beyond : (j : ℕ) → m ≤ j → j < 4 → rate τ j ≡ 0
 
--- rates that fit are in range, and 0 beyond the last core
-rates-range : (m : ℕ) (τ : Task) → T (ratesFit m (τ .rates)) → (j : ℕ) → j < 4 → (rate τ j ≤ 15) × (m ≤ j → rate τ j ≡ 0)
+-- rates that fit, core by core
+pub rates-at : (m : ℕ) (r : Rates) → T (ratesFit m r) → (j : ℕ) → j < 4 → nth (r .0) j ≤ mostRate m j
 unfolding ratesFit
-rates-range m τ t j l = go (ltb j m) refl (leb→le _ _ (all-at 4 (λ j. leb (rate τ j) (cond (ltb j m) 15 0)) t j l))
+rates-at m r t j l = leb→le _ _ (all-at 4 (λ j. leb (nth (r .0) j) (mostRate m j)) t j l)
+
+-- the most that a rate may be, on the board and beyond its last core
+most-range : (m j x : ℕ) → x ≤ mostRate m j → (x ≤ 15) × (m ≤ j → x ≡ 0)
+most-range m j x = go (ltb j m) (le-ltb j m)
   where
-    go : (b : Bool) → ltb j m ≡ b → rate τ j ≤ cond b 15 0 → (rate τ j ≤ 15) × (m ≤ j → rate τ j ≡ 0)
-    go true e h = (h, λ k. absurd (subst T (sym e ∙ le-ltb j m k) tt))
+    go : (b : Bool) → (m ≤ j → b ≡ false) → x ≤ cond b 15 0 → (x ≤ 15) × (m ≤ j → x ≡ 0)
+    go true e h = (h, λ k. absurd (subst T (e k) tt))
     go false e h = (omega arith, λ k. omega arith)
 
 -- a task that is not refused is in range
@@ -89,8 +94,8 @@ task-range m τ e =
       work-pos = within-is _ _ _ (c .0) .0;
       work-le = within-is _ _ _ (c .0) .1;
       offset-le = within-is _ _ _ (d .0) .1;
-      rate-le = λ j l. rates-range m τ (f .0) j l .0;
-      rate-beyond = λ j k l. rates-range m τ (f .0) j l .1 k;
+      rate-le = λ j l. most-range m j _ (rates-at m _ (f .0) j l) .0;
+      rate-beyond = λ j k l. most-range m j _ (rates-at m _ (f .0) j l) .1 k;
     }
 
 -- a period that divides a length makes windows that fit it

@@ -6,7 +6,7 @@ use mathlib.Core.Logic.{_↔_}
 use mathlib.Core.Bool.{Bool, true, false, cond, _&&_}
 use native.Mathlib.Omega.{arith}
 use native.Mathlib.Decide.{ℕ-discrete}
-use native.Mathlib.Nat.{le-refl, le-antisymm, mod-lt, mod-eq-of-lt, mod-add-mod, add-mod-mod, div-add-mod, div-lt-iff-lt-mul, mul-le-mul-right, div-add-mod', add-mul-mod-self-left, add-sub-of-le, mul-pos}
+use native.Mathlib.Nat.{le-refl, mod-lt, mod-eq-of-lt, mod-add-mod, add-mod-mod, div-add-mod, div-lt-iff-lt-mul, mul-le-mul-right, div-add-mod', add-mul-mod-self-left, add-sub-of-le, mul-pos}
 use lib.Dec.{T as Passes, ltb, eqb, lt→ltb, ltb→lt, eqb→eq, eqb-refl}
 use lib.Arith.{digits-div, digits-mod, mod-mul}
 use Rattle.laws.specs.Sum.{gate, sum}

@@ -1,11 +1,11 @@
 -- What a table is planned for, with no word of periods and offsets; and the instance that a task list makes for a table of L slots.
 -- Tasks and jobs are numbered as in 01, cores from 0.
 -- Assumes nothing.
-use Prim.Native.Nat.{ℕ, suc, _/_, _≤_, _<_, _∣_}
+use Prim.Native.Nat.{ℕ, _/_, _≤_, _<_}
 use mathlib.Core.Logic.{_≢_}
 use mathlib.Core.Bool.{Bool, _&&_}
 use mathlib.Core.List.{List}
-use lib.Dec.{T, eqb}
+use lib.Dec.{eqb}
 use lib.ListN.{length}
 use Rattle.tasks.specs.declared.Task.{Task}
 use Rattle.tasks.specs.Task.{task, rate}

@@ -30,9 +30,13 @@ unless false k next = k
 unfoldable pub orNext : ℕ → ℕ → ℕ
 orNext x next = cond (eqb x 0) next x
 
--- rates 0..15 each, and 0 beyond the board's last core
+-- the most that a rate may be on core j of m: 15, and 0 beyond the board's last core
+abbrev pub mostRate : ℕ → ℕ → ℕ
+mostRate m j = cond (ltb j m) 15 0
+
+-- the four rates are in range
 unfoldable pub ratesFit : ℕ → Rates → Bool
-ratesFit m r = all 4 (λ j. leb (nth (r .0) j) (cond (ltb j m) 15 0))
+ratesFit m r = all 4 (λ j. leb (nth (r .0) j) (mostRate m j))
 
 -- within a task 3 to 7: period T 1..1024, deadline D 1..T, work C 1..4096, offset O 0..1023, rates
 unfoldable pub taskRefusal : ℕ → Task → ℕ

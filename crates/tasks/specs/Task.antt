@@ -6,7 +6,6 @@ use lib.ListN.{getD}
 use Rattle.laws.specs.Lists.{nth, tab}
 use Rattle.tasks.specs.declared.Slots.{Slots}
 use Rattle.tasks.specs.declared.Work.{Work}
-use Rattle.tasks.specs.declared.Rates.{Rates}
 use Rattle.tasks.specs.declared.Task.{Task}
 use Rattle.tasks.specs.declared.TaskList.{TaskList}
 

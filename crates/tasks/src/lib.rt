@@ -23,20 +23,32 @@ pub struct Task {
 }
 
 pub const MAX_TASKS: u8 = 16;
+
 pub const MAX_CORES: u8 = 4;
+
 pub const MAX_SLOTS: u16 = 1024;
+
 pub const MAX_OFFSET: u16 = 1023;
+
 pub const MAX_WORK: u16 = 4096;
+
 pub const MAX_RATE: u8 = 15;
 
 // The refusals of a task list, by 01's numbers.
 pub const BAD_COUNT: u8 = 1;
+
 pub const BAD_CORES: u8 = 2;
+
 pub const BAD_PERIOD: u8 = 3;
+
 pub const BAD_DEADLINE: u8 = 4;
+
 pub const BAD_WORK: u8 = 5;
+
 pub const BAD_OFFSET: u8 = 6;
+
 pub const BAD_RATE: u8 = 7;
+
 pub const BAD_LENGTH: u8 = 8;
 
 // A task list as numbers: n tasks, field by field, and four rates a task. Any n above 16 stands for too many.
@@ -69,7 +81,12 @@ pub fn task_at(list: TaskList, i: usize) -> Task
         work: Work(list.work[i]),
         deadline: Slots(list.deadline[i]),
         period: Slots(list.period[i]),
-        rates: Rates([list.rates[k], list.rates[k + 1], list.rates[k + 2], list.rates[k + 3]]),
+        rates: Rates([
+            list.rates[k],
+            list.rates[k + 1],
+            list.rates[k + 2],
+            list.rates[k + 3],
+        ]),
     }
 }
 

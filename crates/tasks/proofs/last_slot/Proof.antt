@@ -6,8 +6,6 @@ use Rattle.tasks.proofs.WindowLaws.{pos-L, period-fits, end-fits, last-
 use borrow.Author.Needs.{needs}
 use Rattle.tasks.proofs.last_slot.Statement.{statement}
 use Rattle.tasks.proofs.last_slot.Tie as tie
-use Rattle.tasks.proofs.last_slot.Reads as reads
-use Rattle.tasks.proofs.last_slot.Lts as lts
 
 mul-first : tie.Need-mul-first
 mul-first c = omega (arith, period-fits (c .before .pre .2) _ (c .before .pre .3))

@@ -10,10 +10,6 @@ use Rattle.tasks.specs.Refusal.{taskRefusal}
 use Rattle.tasks.proofs.AnswerLaws.{list-refused, list-passed}
 use Rattle.tasks.proofs.list_refusal.Statement.{statement}
 use Rattle.tasks.proofs.list_refusal.Tie as tie
-use Rattle.tasks.proofs.list_refusal.Reads as reads
-use Rattle.tasks.proofs.list_refusal.Lts as lts
-use Rattle.tasks.proofs.task_at.Reads as task-at-reads
-use Rattle.tasks.proofs.task_refusal.Reads as task-refusal-reads
 
 abbrev Inv-loop : tie.InvT-loop
 Inv-loop list m n i₀ i = (i ≤ n) × ((k : ℕ) → k < i → taskRefusal m (taskAt list k) ≡ 0)

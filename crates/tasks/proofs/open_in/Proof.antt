@@ -4,9 +4,6 @@ use Rattle.tasks.proofs.AnswerLaws.{window-open, window-closed}
 use borrow.Author.Needs.{needs}
 use Rattle.tasks.proofs.open_in.Statement.{statement}
 use Rattle.tasks.proofs.open_in.Tie as tie
-use Rattle.tasks.proofs.open_in.Reads as reads
-use Rattle.tasks.proofs.open_in.Lts as lts
-use Rattle.tasks.proofs.place.Reads as place-reads
 
 place-requires : tie.Need-place-requires
 place-requires c κs = search needs

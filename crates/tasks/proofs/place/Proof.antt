@@ -6,8 +6,6 @@ use Rattle.tasks.specs.Window.{place}
 use borrow.Author.Needs.{needs}
 use Rattle.tasks.proofs.place.Statement.{statement}
 use Rattle.tasks.proofs.place.Tie as tie
-use Rattle.tasks.proofs.place.Reads as reads
-use Rattle.tasks.proofs.place.Lts as lts
 
 rem-t4 : tie.Need-rem-t4
 rem-t4 c = search needs

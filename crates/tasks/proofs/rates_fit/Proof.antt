@@ -3,20 +3,17 @@
 use Prim.Native.Nat.{ℕ, _-_, _≤_, _<_}
 use mathlib.Core.Path.{_≡_, subst}
 use mathlib.Core.Logic.{⊎-elim}
-use mathlib.Core.Bool.{cond}
 use native.Mathlib.Omega.{arith}
-use lib.Dec.{ltb}
 use borrow.Author.Count.{below-none, below-more}
 use borrow.Author.Needs.{needs}
 use Rattle.laws.specs.Lists.{nth}
+use Rattle.tasks.specs.Refusal.{mostRate}
 use Rattle.tasks.proofs.AnswerLaws.{most-within, most-beyond, rates-over, rates-under}
 use Rattle.tasks.proofs.rates_fit.Statement.{statement}
 use Rattle.tasks.proofs.rates_fit.Tie as tie
-use Rattle.tasks.proofs.rates_fit.Reads as reads
-use Rattle.tasks.proofs.rates_fit.Lts as lts
 
 abbrev Inv-loop : tie.InvT-loop
-Inv-loop m row j₀ j = (j ≤ 4) × ((k : ℕ) → k < j → nth row k ≤ cond (ltb k m) 15 0)
+Inv-loop m row j₀ j = (j ≤ 4) × ((k : ℕ) → k < j → nth row k ≤ mostRate m k)
 
 abbrev μ-loop : tie.MeasureT-loop
 μ-loop m row j₀ j = 4 - j
@@ -31,7 +28,7 @@ array-read-if2 : tie.Need-array-read-if2 Inv-loop μ-loop
 array-read-if2 c = search needs
 
 -- the most that the code allows a rate
-most-is : (c : tie.Joined1 Inv-loop μ-loop) → c .if1 .most ≡ cond (ltb (c .before .before .loop .j) (c .before .before .before .before .args .m)) 15 0
+most-is : (c : tie.Joined1 Inv-loop μ-loop) → c .if1 .most ≡ mostRate (c .before .before .before .before .args .m) (c .before .before .loop .j)
 most-is c = ⊎-elim (λ w. most-within _ _ _ (w .0 .taken) (w .1)) (λ w. most-beyond _ _ _ (w .0 .left) (w .1)) (c .if1 .came)
 
 returns : tie.Need-returns Inv-loop μ-loop

@@ -1,19 +1,15 @@
 -- `tasks::table_length` meets its contract. The loop's invariant: h is the least common multiple of the periods passed, and at most 1024.
 -- The measure is what is left of the tasks. Assumes nothing.
-use Prim.Native.Nat.{ℕ, suc, _+_, _-_, _≤_, _<_}
-use mathlib.Core.Path.{_≡_, refl, sym, ap, _∙_}
+use Prim.Native.Nat.{suc, _+_, _-_, _≤_}
+use mathlib.Core.Path.{_≡_, refl}
 use native.Mathlib.Omega.{arith}
 use borrow.Author.Needs.{needs}
 use Rattle.laws.specs.Lcm.{lcmsOf}
-use Rattle.laws.proofs.LcmLaws.{lcms-next}
 use Rattle.tasks.specs.Task.{task, rows}
 use Rattle.tasks.proofs.SoundLaws.{rows-length}
 use Rattle.tasks.proofs.AnswerLaws.{length-next, length-over, length-done}
 use Rattle.tasks.proofs.table_length.Statement.{statement}
 use Rattle.tasks.proofs.table_length.Tie as tie
-use Rattle.tasks.proofs.table_length.Reads as reads
-use Rattle.tasks.proofs.table_length.Lts as lts
-use Rattle.laws.proofs.lcm.Reads as lcm-reads
 
 abbrev Inv-loop : tie.InvT-loop
 Inv-loop list n h₀ i₀ h i = (i ≤ n) × (h ≡ lcmsOf i (λ k. task (rows list) (suc k) .period .0)) × (h ≤ 1024)

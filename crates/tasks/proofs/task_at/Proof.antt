@@ -5,8 +5,6 @@ use Rattle.tasks.specs.Task.{taskAt}
 use borrow.Author.Needs.{needs}
 use Rattle.tasks.proofs.task_at.Statement.{statement}
 use Rattle.tasks.proofs.task_at.Tie as tie
-use Rattle.tasks.proofs.task_at.Reads as reads
-use Rattle.tasks.proofs.task_at.Lts as lts
 
 mul-k : tie.Need-mul-k
 mul-k c = search needs

@@ -6,10 +6,6 @@ use Rattle.tasks.proofs.AnswerLaws.{refuses, goes-on}
 use borrow.Author.Needs.{needs}
 use Rattle.tasks.proofs.task_refusal.Statement.{statement}
 use Rattle.tasks.proofs.task_refusal.Tie as tie
-use Rattle.tasks.proofs.task_refusal.Reads as reads
-use Rattle.tasks.proofs.task_refusal.Lts as lts
-use Rattle.tasks.proofs.rates_fit.Reads as rates-fit-reads
-use Rattle.tasks.proofs.within.Reads as within-reads
 
 within-requires : tie.Need-within-requires
 within-requires c κs = search needs

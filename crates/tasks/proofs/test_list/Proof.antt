@@ -6,11 +6,6 @@ use Rattle.tasks.proofs.AnswerLaws.{refuses, goes-on, or-first, or-next
 use borrow.Author.Needs.{needs}
 use Rattle.tasks.proofs.test_list.Statement.{statement}
 use Rattle.tasks.proofs.test_list.Tie as tie
-use Rattle.tasks.proofs.test_list.Reads as reads
-use Rattle.tasks.proofs.test_list.Lts as lts
-use Rattle.tasks.proofs.list_refusal.Reads as list-refusal-reads
-use Rattle.tasks.proofs.table_length.Reads as table-length-reads
-use Rattle.tasks.proofs.within.Reads as within-reads
 
 cast-within : tie.Need-cast-within
 cast-within c = search needs

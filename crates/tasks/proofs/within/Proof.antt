@@ -3,8 +3,6 @@
 use Rattle.tasks.proofs.AnswerLaws.{within-low, within-high}
 use Rattle.tasks.proofs.within.Statement.{statement}
 use Rattle.tasks.proofs.within.Tie as tie
-use Rattle.tasks.proofs.within.Reads as reads
-use Rattle.tasks.proofs.within.Lts as lts
 
 returns : tie.Need-returns
 returns c = within-low _ _ _ (c .if1 .taken)

@@ -5,8 +5,6 @@ use lib.Dec.{lit<}
 use borrow.Author.Needs.{needs}
 use Rattle.tasks.proofs.work_in.Statement.{statement}
 use Rattle.tasks.proofs.work_in.Tie as tie
-use Rattle.tasks.proofs.work_in.Reads as reads
-use Rattle.tasks.proofs.work_in.Lts as lts
 
 mul-t5 : tie.Need-mul-t5
 mul-t5 c = record { fits = lt-of-le-of-lt (mul-le-mul (c .pre .0) (c .pre .1)) (lit< tt) }
