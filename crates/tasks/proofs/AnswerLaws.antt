@@ -23,7 +23,7 @@ use Rattle.tasks.specs.declared.Length.the-variants.{Fits, TooLong}
 use Rattle.tasks.specs.declared.Soundness.the-variants.{Sound, Refused}
 use Rattle.tasks.specs.declared.Window.the-variants.{Open, Closed}
 use Rattle.tasks.specs.Task.{task, taskAt, rows}
-use Rattle.tasks.specs.Refusal.{mostRate, within, unless, orNext, ratesFit, taskRefusal, listRefusal, tableLength, refusal, fitsIf, lengthOf, soundIf, soundnessOf, Periods}
+use Rattle.tasks.specs.Refusal.{mostRate, periodAt, within, unless, orNext, ratesFit, taskRefusal, listRefusal, tableLength, refusal, fitsIf, lengthOf, soundIf, soundnessOf, Periods}
 use Rattle.tasks.specs.Window.{place, openIf, windowAt}
 use Rattle.tasks.proofs.SoundLaws.{rows-length, rows-task, rates-at, within-is, list-range}
 
@@ -102,28 +102,28 @@ module _ (m : ℕ) (l : TaskList) where
 
 -- ---- lengths
 -- the period at place i of a list as numbers
-period-at : (l : TaskList) (i : ℕ) → i < l .n → nth (l .period) i ≡ task (rows l) (suc i) .period .0
+period-at : (l : TaskList) (i : ℕ) → i < l .n → nth (l .period) i ≡ periodAt (rows l) i
 unfolding taskAt
 period-at l i h = sym (ap (λ τ. τ .period .0) (rows-task l i h))
 
 -- one turn of the loop: r is the least common multiple of h, that of the periods before place i, and the period there
-pub length-next : (l : TaskList) (i h r : ℕ) → i < l .n → h ≡ lcmsOf i (λ k. task (rows l) (suc k) .period .0) → r ≡ lcmOf h (nth (l .period) i)
-    → r ≡ lcmsOf (i + 1) (λ k. task (rows l) (suc k) .period .0)
+pub length-next : (l : TaskList) (i h r : ℕ) → i < l .n → h ≡ lcmsOf i (periodAt (rows l)) → r ≡ lcmOf h (nth (l .period) i)
+    → r ≡ lcmsOf (i + 1) (periodAt (rows l))
 length-next l i h r b e f = lcms-next i _ h r e (f ∙ ap (lcmOf h) (period-at l i b))
 
 -- all periods passed, and the length fits
-pub length-done : (l : TaskList) (i h : ℕ) → i ≤ l .n → l .n ≤ i → h ≡ lcmsOf i (λ k. task (rows l) (suc k) .period .0) → h ≤ 1024
+pub length-done : (l : TaskList) (i h : ℕ) → i ≤ l .n → l .n ≤ i → h ≡ lcmsOf i (periodAt (rows l)) → h ≤ 1024
     → Fits (record { 0 = h }) ≡ lengthOf (rows l)
 unfolding lengthOf tableLength
 length-done l i h a b e f =
     let i-is : i ≡ length (rows l) = omega (arith, rows-length l) in
-    ap (λ b. fitsIf b h) (sym (le-leb h 1024 f)) ∙ ap (λ x. fitsIf (leb x 1024) x) (e ∙ ap (λ n. lcmsOf n (λ k. task (rows l) (suc k) .period .0)) i-is)
+    ap (λ b. fitsIf b h) (sym (le-leb h 1024 f)) ∙ ap (λ x. fitsIf (leb x 1024) x) (e ∙ ap (λ n. lcmsOf n (periodAt (rows l))) i-is)
 
 -- a part of the periods is too long already
-pub length-over : (ts : List Task) (i h : ℕ) → Periods ts → i ≤ length ts → h ≡ lcmsOf i (λ k. task ts (suc k) .period .0) → 1024 < h → TooLong ≡ lengthOf ts
+pub length-over : (ts : List Task) (i h : ℕ) → Periods ts → i ≤ length ts → h ≡ lcmsOf i (periodAt ts) → 1024 < h → TooLong ≡ lengthOf ts
 unfolding lengthOf tableLength
 length-over ts i h all le e l =
-    let more = lcms-mono (length ts) i (λ k. task ts (suc k) .period .0) (λ k q. all k q .0) le in
+    let more = lcms-mono (length ts) i (periodAt ts) (λ k q. all k q .0) le in
     ap (λ b. fitsIf b (tableLength ts)) (sym (lt-leb (tableLength ts) 1024 (omega arith)))
 
 -- ---- soundness

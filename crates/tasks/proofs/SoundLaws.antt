@@ -20,7 +20,7 @@ use Rattle.tasks.specs.declared.Task.{Task}
 use Rattle.tasks.specs.declared.TaskList.{TaskList}
 use Rattle.tasks.specs.declared.Soundness.the-variants.{Sound, Refused}
 use Rattle.tasks.specs.Task.{rate, noTask, task, taskAt, rows}
-use Rattle.tasks.specs.Refusal.{mostRate, within, unless, orNext, ratesFit, taskRefusal, listRefusal, tableLength, refusal, IsSound, soundIf, soundnessOf}
+use Rattle.tasks.specs.Refusal.{mostRate, periodAt, within, unless, orNext, ratesFit, taskRefusal, listRefusal, tableLength, refusal, IsSound, soundIf, soundnessOf}
 use Rattle.tasks.specs.Window.{Cyclic}
 use Rattle.tasks.specs.Instance.{instanceOf, Regular}
 use Rattle.tasks.proofs.WindowLaws.{both, job-lt}
@@ -112,7 +112,7 @@ pub record SoundList (m : ℕ) (ts : List Task) : Type 0 where
   pub in-range : (i : ℕ) → i ≢ 0 → i ≤ length ts → InRange m (task ts i)
   pub some-slot : 0 < tableLength ts
   pub few-slots : tableLength ts ≤ 1024
-  pub least : IsLcms (length ts) (λ k. task ts (suc k) .period .0) (tableLength ts)
+  pub least : IsLcms (length ts) (periodAt ts) (tableLength ts)
 
 -- tasks that are not refused are in range
 pub list-range : (m : ℕ) (ts : List Task) → listRefusal m ts ≡ 0 → (i : ℕ) → i ≢ 0 → i ≤ length ts → InRange m (task ts i)
@@ -127,7 +127,7 @@ sound-list m ts e =
     let a = unless-none _ _ _ (omega arith) e in
     let b = unless-none _ _ _ (omega arith) (a .1) in
     let c = next-none _ _ (b .1) in
-    let h = lcms-of (length ts) (λ k. task ts (suc k) .period .0) (λ k l. list-range m ts (c .0) (suc k) (omega arith) l .period-pos) in
+    let h = lcms-of (length ts) (periodAt ts) (λ k l. list-range m ts (c .0) (suc k) (omega arith) l .period-pos) in
     record {
       some-task = within-is _ _ _ (a .0) .0;
       few-tasks = within-is _ _ _ (a .0) .1;
@@ -152,7 +152,7 @@ module _ {m : ℕ} {ts : List Task} (s : SoundList m ts) where
     where
       divides : (i : ℕ) → i ≢ 0 → i ≤ length ts → task ts i .period .0 ∣ tableLength ts
       divides zero x l = absurd (x refl)
-      divides (suc k) x l = lcms-divides (length ts) (λ k. task ts (suc k) .period .0) (tableLength ts) k (s .least) l
+      divides (suc k) x l = lcms-divides (length ts) (periodAt ts) (tableLength ts) k (s .least) l
 
   -- the windows of each task fit a table of such a length
   pub sound-cyclic : {L : ℕ} → Whole L ts → (i : ℕ) → i ≢ 0 → i ≤ length ts

@@ -53,7 +53,7 @@ pub period-fits : {L D T q : ℕ} → Cyclic L D T q → (k : ℕ) → k < q →
 period-fits {T = T} w k h = omega (arith, mul-le-mul-right T h, w .cycle)
 
 -- a window that starts in the table ends before the table's second turn does
-pub end-fits : {L D T q : ℕ} → Cyclic L D T q → (O k : ℕ) → (O + k * T) % L + D ≤ L + L
+pub end-fits : {L D T q : ℕ} → Cyclic L D T q → (O k : ℕ) → (O + k * T) % L + (D - 1) < L + L
 end-fits {T = T} w O k = omega (arith, mod-lt (O + k * T) (pos-L w), D-le-L w)
 
 -- ---- the slots of a job
@@ -216,17 +216,17 @@ module _ {L D T q : ℕ} (w : Cyclic L D T q) (O : ℕ) where
   first-slot : (k u : ℕ) → (O + (k * T + u)) % L ≡ ((O + k * T) % L + u) % L
   first-slot k u = ap (λ x. x % L) (omega arith) ∙ sym (mod-add-mod (O + k * T) L u)
 
-  -- the highest slot of a job whose window does not run round the end is the window's last
-  pub last-straight : (k : ℕ) → k < q → (O + k * T) % L + D ≤ L → (O + k * T) % L + D - 1 ≡ lastSlot L O D T k
+  -- the highest slot of a job whose window does not run round the table's end is the window's last
+  pub last-straight : (k : ℕ) → k < q → (O + k * T) % L + (D - 1) < L → (O + k * T) % L + (D - 1) ≡ lastSlot L O D T k
   last-straight k h fits =
-      sym (highest-is L (isJobs L O D T k) _ (omega arith)
-      (subst (λ x. Passes (isJobs L O D T k x)) (first-slot k (D - 1) ∙ mod-eq-of-lt (omega arith) ∙ omega arith) (window-slot k (D - 1) h (omega arith)))
+      sym (highest-is L (isJobs L O D T k) _ fits
+      (subst (λ x. Passes (isJobs L O D T k x)) (first-slot k (D - 1) ∙ mod-eq-of-lt fits) (window-slot k (D - 1) h (omega arith)))
       (λ t a l p. let s = slot-window k t l p in
       let e : ((O + k * T) % L + s .0) % L ≡ (O + k * T) % L + s .0 = mod-eq-of-lt (omega arith) in
       omega (arith, first-slot k (s .0), s .2)))
 
   -- and else it is the table's last
-  pub last-round : (k : ℕ) → k < q → L < (O + k * T) % L + D → L - 1 ≡ lastSlot L O D T k
+  pub last-round : (k : ℕ) → k < q → L ≤ (O + k * T) % L + (D - 1) → L - 1 ≡ lastSlot L O D T k
   last-round k h over =
       let first : (O + k * T) % L < L = mod-lt (O + k * T) (pos-L w) in
       sym (highest-is L (isJobs L O D T k) (L - 1) (omega arith)

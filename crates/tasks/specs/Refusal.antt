@@ -51,9 +51,13 @@ taskRefusal m τ =
 unfoldable pub listRefusal : ℕ → List Task → ℕ
 listRefusal m ts = firstOf (length ts) (λ k. taskRefusal m (task ts (suc k)))
 
+-- the period of the task at place k, from 0
+abbrev pub periodAt : List Task → ℕ → ℕ
+periodAt ts k = task ts (suc k) .period .0
+
 -- H, the least common multiple of all periods
 unfoldable pub tableLength : List Task → ℕ
-tableLength ts = lcmsOf (length ts) (λ k. task ts (suc k) .period .0)
+tableLength ts = lcmsOf (length ts) (periodAt ts)
 
 -- 1 no task or over 16; 2 cores not 1..4; 3 to 7 task by task; 8 H over 1024
 unfoldable pub refusal : ℕ → List Task → ℕ
@@ -85,4 +89,4 @@ soundnessOf m ts = soundIf (eqb (refusal m ts) 0) (refusal m ts) (tableLength ts
 
 -- each period is 1..1024
 abbrev pub Periods : List Task → Type 0
-Periods ts = (k : ℕ) → k < length ts → (0 < task ts (suc k) .period .0) × (task ts (suc k) .period .0 ≤ 1024)
+Periods ts = (k : ℕ) → k < length ts → (0 < periodAt ts k) × (periodAt ts k ≤ 1024)

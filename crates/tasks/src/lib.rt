@@ -240,9 +240,9 @@ pub fn last_slot(len: Slots, t: Task, job: u16) -> Slots
     ensures { λ r. ⌜ r .0 ≡ lastSlot (len .0) (t .offset .0) (t .deadline .0) (t .period .0) job ⌝ }
 {
     let first = (t.offset.0 + job * t.period.0) % len.0;
-    let end = first + t.deadline.0;
-    if end <= len.0 {
-        Slots(end - 1)
+    let last = first + (t.deadline.0 - 1);
+    if last < len.0 {
+        Slots(last)
     } else {
         Slots(len.0 - 1)
     }

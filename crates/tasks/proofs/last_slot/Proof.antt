@@ -1,9 +1,9 @@
 -- `tasks::last_slot` meets its contract: the closed form is the highest slot that is the job's.
 -- Assumes nothing.
 use native.Mathlib.Omega.{arith}
-use native.Mathlib.Nat.{lt-of-le-of-lt}
-use Rattle.tasks.proofs.WindowLaws.{pos-L, period-fits, end-fits, last-straight, last-round}
+use native.Mathlib.Nat.{lt-trans}
 use borrow.Author.Needs.{needs}
+use Rattle.tasks.proofs.WindowLaws.{pos-L, period-fits, end-fits, last-straight, last-round}
 use Rattle.tasks.proofs.last_slot.Statement.{statement}
 use Rattle.tasks.proofs.last_slot.Tie as tie
 
@@ -16,14 +16,14 @@ add-first c = omega (arith, period-fits (c .before .before .pre .2) _ (c .before
 rem-first : tie.Need-rem-first
 rem-first c = pos-L (c .before .before .before .pre .2)
 
-add-end : tie.Need-add-end
-add-end c = record { fits = lt-of-le-of-lt (end-fits (c .before .before .before .before .pre .2) _ _) (omega arith) }
+sub-last : tie.Need-sub-last
+sub-last c = search needs
+
+add-last : tie.Need-add-last
+add-last c = record { fits = lt-trans (end-fits (c .before .before .before .before .pre .2) _ _) (omega arith) }
 
 sub-t10 : tie.Need-sub-t10
-sub-t10 c = search needs
-
-sub-t11 : tie.Need-sub-t11
-sub-t11 c = pos-L (c .before .before .before .before .before .before .before .pre .2)
+sub-t10 c = omega (arith, pos-L (c .before .before .before .before .before .before .before .pre .2))
 
 returns : tie.Need-returns
 returns c = last-straight (c .before .before .before .before .before .before .pre .2) _ _ (c .before .before .before .before .before .before .pre .3) (c .if1 .taken)
@@ -33,4 +33,4 @@ returns-2 c = last-round (c .before .before .before .before .before .before .bef
 
 pub last-slot-spec : {M : Type 1} → statement M
 last-slot-spec =
-    tie.close (tie.spec mul-first add-first rem-first add-end sub-t10 sub-t11 returns returns-2)
+    tie.close (tie.spec mul-first add-first rem-first sub-last add-last sub-t10 returns returns-2)

@@ -1,18 +1,19 @@
 -- `tasks::table_length` meets its contract. The loop's invariant: h is the least common multiple of the periods passed, and at most 1024.
 -- The measure is what is left of the tasks. Assumes nothing.
-use Prim.Native.Nat.{suc, _+_, _-_, _≤_}
+use Prim.Native.Nat.{_+_, _-_, _≤_}
 use mathlib.Core.Path.{_≡_, refl}
 use native.Mathlib.Omega.{arith}
 use borrow.Author.Needs.{needs}
 use Rattle.laws.specs.Lcm.{lcmsOf}
-use Rattle.tasks.specs.Task.{task, rows}
+use Rattle.tasks.specs.Task.{rows}
+use Rattle.tasks.specs.Refusal.{periodAt}
 use Rattle.tasks.proofs.SoundLaws.{rows-length}
 use Rattle.tasks.proofs.AnswerLaws.{length-next, length-over, length-done}
 use Rattle.tasks.proofs.table_length.Statement.{statement}
 use Rattle.tasks.proofs.table_length.Tie as tie
 
 abbrev Inv-loop : tie.InvT-loop
-Inv-loop list n h₀ i₀ h i = (i ≤ n) × (h ≡ lcmsOf i (λ k. task (rows list) (suc k) .period .0)) × (h ≤ 1024)
+Inv-loop list n h₀ i₀ h i = (i ≤ n) × (h ≡ lcmsOf i (periodAt (rows list))) × (h ≤ 1024)
 
 abbrev μ-loop : tie.MeasureT-loop
 μ-loop list n h₀ i₀ h i = n - i
@@ -44,7 +45,7 @@ cast-if1 c = search needs
 
 -- the new h
 more : (c : tie.After-lcm Inv-loop μ-loop)
-    → c .lcm .result ≡ lcmsOf (c .before .before .before .loop .i + 1) (λ k. task (rows (c .before .before .before .before .args .t1)) (suc k) .period .0)
+    → c .lcm .result ≡ lcmsOf (c .before .before .before .loop .i + 1) (periodAt (rows (c .before .before .before .before .args .t1)))
 more c = length-next _ _ _ _ (c .before .before .loop-test .taken) (c .before .before .before .loop .inv .1) (c .lcm .ensures)
 
 returns : tie.Need-returns Inv-loop μ-loop

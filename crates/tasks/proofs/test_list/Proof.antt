@@ -1,7 +1,11 @@
 -- `tasks::test_list` meets its contract: its tests are the definition's, in 01's order.
 -- Assumes nothing.
+use Prim.Native.Nat.{ℕ}
+use mathlib.Core.Path.{_≡_}
 use native.Mathlib.Omega.{arith}
-use Rattle.tasks.specs.Refusal.{refusal}
+use lib.Dec.{leb}
+use Rattle.tasks.specs.Task.{rows}
+use Rattle.tasks.specs.Refusal.{unless, tableLength, refusal}
 use Rattle.tasks.proofs.AnswerLaws.{refuses, goes-on, or-first, or-next, count-test, within-passed, passed-periods, length-told, length-refused, sound-answer, refused-answer}
 use borrow.Author.Needs.{needs}
 use Rattle.tasks.proofs.test_list.Statement.{statement}
@@ -54,23 +58,24 @@ enum-known-length c = search needs
 enum-told : tie.Need-enum-told
 enum-told c = search needs
 
-returns-4 : tie.Need-returns-4
+-- 1 to 7 do not refuse the list: its refusal is that of its length
+only-length : (c : tie.After-table-length) (x : ℕ) → x ≡ unless (leb (tableLength (rows (c .before .before .before .before .before .before .before .before .args .list))) 1024) 8 0
+    → x ≡ refusal (c .before .before .before .before .before .before .before .before .args .m) (rows (c .before .before .before .before .before .before .before .before .args .list))
 unfolding refusal
+only-length c x e =
+    goes-on _ _ _ _ _ (count-test _ _ (c .before .before .before .before .before .before .within .ensures)) (c .before .before .before .before .before .if1 .left)
+    (goes-on _ _ _ _ _ (c .before .before .before .before .within2 .ensures) (c .before .before .before .if2 .left)
+    (or-next _ _ _ _ (c .before .before .list-refusal .ensures) (c .before .if3 .left) e))
+
+returns-4 : tie.Need-returns-4
 returns-4 c =
     let told = length-told _ _ _ (c .before .before .before .table-length .ensures) (c .before .length .given .1) in
-    sound-answer _ _ _
-    (goes-on _ _ _ _ _ (count-test _ _ (c .before .before .before .before .before .before .before .before .before .within .ensures)) (c .before .before .before .before .before .before .before .before .if1 .left)
-    (goes-on _ _ _ _ _ (c .before .before .before .before .before .before .before .within2 .ensures) (c .before .before .before .before .before .before .if2 .left)
-    (or-next _ _ _ _ (c .before .before .before .before .before .list-refusal .ensures) (c .before .before .before .before .if3 .left) (told .0)))) (told .1)
+    sound-answer _ _ _ (only-length (c .before .before .before) 0 (told .0)) (told .1)
 
 returns-5 : tie.Need-returns-5
-unfolding refusal
 returns-5 c =
     refused-answer _ _ _ (λ z. omega arith)
-    (goes-on _ _ _ _ _ (count-test _ _ (c .before .before .before .before .before .before .before .before .within .ensures)) (c .before .before .before .before .before .before .before .if1 .left)
-    (goes-on _ _ _ _ _ (c .before .before .before .before .before .before .within2 .ensures) (c .before .before .before .before .before .if2 .left)
-    (or-next _ _ _ _ (c .before .before .before .before .list-refusal .ensures) (c .before .before .before .if3 .left)
-    (length-refused _ _ (c .before .before .table-length .ensures) (c .enum-told .given .1)))))
+    (only-length (c .before .before) 8 (length-refused _ _ (c .before .before .table-length .ensures) (c .enum-told .given .1)))
 
 pub test-list-spec : {M : Type 1} → statement M
 test-list-spec =
