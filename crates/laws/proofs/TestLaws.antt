@@ -4,19 +4,19 @@ use Prim.Native.Nat.{ℕ, zero, suc, _<_}
 use native.Mathlib.Nat.{not-suc-le-zero}
 use native.Mathlib.Decide.{ℕ-discrete}
 use native.Mathlib.Omega.{arith}
-use mathlib.Core.Path.{_≡_, refl}
+use mathlib.Core.Path.{_≡_, refl, sym, ap, _∙_}
 use mathlib.Core.Bool.{Bool, true, false, _&&_}
 use mathlib.Core.List.{List, [], _∷_}
 use lib.Dec.{T}
 use Rattle.laws.specs.Tests.{every, Holds, all, imp}
 
 -- both of two tests pass
-both : (a b : Bool) → T (a && b) → T a × T b
+pub both : (a b : Bool) → T (a && b) → T a × T b
 both true b t = (tt, t)
 both false b t = absurd t
 
 -- two tests that pass
-make-both : (a b : Bool) → T a → T b → T (a && b)
+pub make-both : (a b : Bool) → T a → T b → T (a && b)
 make-both true b s t = t
 make-both false b s t = s
 
@@ -57,3 +57,20 @@ imp-use false b t s = absurd s
 pub imp-make : (a b : Bool) → (T a → T b) → T (imp a b)
 imp-make true b h = h tt
 imp-make false b h = tt
+
+-- a test that fails at a number below n
+pub all-false : (n : ℕ) (f : ℕ → Bool) (k : ℕ) → k < n → f k ≡ false → all n f ≡ false
+all-false zero f k l e = absurd (not-suc-le-zero l)
+all-false (suc n) f k l e = elim (ℕ-discrete k n) [
+  | yes q ↦ fails (all n f) (f n) (ap f (sym q) ∙ e)
+  | no x ↦ rw (all-false n f k (omega arith) e)
+]
+  where
+    fails : (a b : Bool) → b ≡ false → a && b ≡ false
+    fails true b h = h
+    fails false b h = refl
+
+-- a test that passes at each number below n
+pub all-true : (n : ℕ) (f : ℕ → Bool) → ((k : ℕ) → k < n → f k ≡ true) → all n f ≡ true
+all-true zero f h = refl
+all-true (suc n) f h = rw (all-true n f (λ k l. h k (omega arith)), h n (omega arith))

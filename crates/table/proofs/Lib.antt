@@ -1,0 +1,4 @@
+pub mod JobLaws
+pub mod ShareLaws
+pub mod TableLaws
+pub mod SwapLaws

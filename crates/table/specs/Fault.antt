@@ -1,0 +1,73 @@
+-- The first fault of a table: cells first, in table order, then jobs, by task and job number.
+-- Assumes nothing.
+use Prim.Native.Nat.{ℕ, zero, suc}
+use mathlib.Core.Bool.{Bool, true, false}
+use mathlib.Core.List.{List}
+use lib.Dec.{leb, ltb}
+use lib.ListN.{length}
+use Rattle.laws.specs.Lists.{nth, seek, firstOf}
+use Rattle.tasks.specs.declared.Task.{Task}
+use Rattle.tasks.specs.Refusal.{unless, orNext, refusal, tableLength}
+use Rattle.tasks.specs.Instance.{Instance, instanceOf}
+use Rattle.table.specs.Table.{cells, slotOf, coreOf, done, free}
+
+-- the fault of a task v in cell c: 1 unknown task number, 2 task closed, 3 rate 0, 4 already in this slot; 0 none
+unfoldable pub kindOf : Instance → ℕ → (ℕ → ℕ) → ℕ → ℕ
+kindOf P c f v =
+    unless (leb v (P .tasks)) 1
+    (unless (P .opens v (slotOf P c)) 2
+    (unless (ltb 0 (P .rate v (coreOf P c))) 3
+    (unless (free P c f v) 4 0)))
+
+-- the fault of cell c; an idle cell has none
+unfoldable pub cellKind : Instance → (ℕ → ℕ) → ℕ → ℕ
+cellKind P f c = idleOr (f c)
+  where
+    idleOr : ℕ → ℕ
+    idleOr zero = 0
+    idleOr (suc v) = kindOf P c f (suc v)
+
+-- the fault of job k of task i: 5 too little work, 6 too much; 0 none
+unfoldable pub jobKind : Instance → (ℕ → ℕ) → ℕ → ℕ → ℕ
+jobKind P f i k =
+    unless (leb (P .work i) (done P (cells P) f i k)) 5
+    (unless (leb (done P (cells P) f i k) (P .work i)) 6 0)
+
+-- what the checker tells: slot, core and kind, or task, job and kind; slots and jobs count from 0, cores and tasks from 1
+pub data Fault : Type 0 where
+  noFault : Fault
+  inCell : ℕ → ℕ → ℕ → Fault
+  inJob : ℕ → ℕ → ℕ → Fault
+
+-- a fault if the test passes, else the next
+abbrev pub faultIf : Bool → Fault → Fault → Fault
+faultIf true x next = x
+faultIf false x next = next
+
+-- the first fault of the jobs
+unfoldable pub jobFault : Instance → (ℕ → ℕ) → Fault
+jobFault P f =
+    let i = seek (P .tasks) (λ j. firstOf (P .jobs (suc j)) (jobKind P f (suc j))) in
+    let k = seek (P .jobs (suc i)) (jobKind P f (suc i)) in
+    faultIf (ltb i (P .tasks)) (inJob (suc i) k (jobKind P f (suc i) k)) noFault
+
+-- the first fault of the table
+unfoldable pub fault : Instance → (ℕ → ℕ) → Fault
+fault P f =
+    let c = seek (cells P) (cellKind P f) in
+    faultIf (ltb c (cells P)) (inCell (slotOf P c) (suc (coreOf P c)) (cellKind P f c)) (jobFault P f)
+
+-- what a checker of a table for a list answers: a refusal, 1 to 8 or 10, or its first fault, if it has one
+pub data Checked : Type 0 where
+  refused : ℕ → Checked
+  checked : Fault → Checked
+
+abbrev pub checkedIf : ℕ → Fault → Checked
+checkedIf zero x = checked x
+checkedIf (suc r) x = refused (suc r)
+
+-- the checker: cells past H × m are not looked at
+unfoldable pub check : ℕ → List Task → List ℕ → Checked
+check m ts t =
+    let P = instanceOf (tableLength ts) m ts in
+    checkedIf (orNext (refusal m ts) (unless (leb (cells P) (length t)) 10 0)) (fault P (nth t))

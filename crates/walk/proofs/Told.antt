@@ -1,0 +1,70 @@
+-- What a search tells of its walk, and what it leaves of the buffer.
+-- Assumes nothing.
+use Prim.Native.Nat.{ℕ, _≤_}
+use native.Mathlib.Omega.{arith}
+use mathlib.Core.Path.{_≡_, refl, ap, _∙_}
+use mathlib.Core.Logic.{_≢_}
+use mathlib.Core.List.{List}
+use lib.ListN.{length, take, drop, replicate, length-replicate}
+use lib.Seq.{take-at, drop-at}
+use borrow.Author.Tests.{le-leb}
+use Rattle.laws.specs.Lists.{over}
+use Rattle.tasks.specs.declared.Task.{Task}
+use Rattle.tasks.specs.Refusal.{unless, orNext, refusal}
+use Rattle.table.specs.Table.{cells}
+use Rattle.walk.specs.Walk.{Result, found, none, tries, ended, limited}
+use Rattle.walk.specs.Right.{ownInstance, Quicker}
+use Rattle.walk.specs.Search.{walked, told, searchRefusal, search}
+
+-- n cells written over the start of a buffer
+pub over-take : (n : ℕ) (s t : List ℕ) → length s ≡ n → take n (over s t) ≡ s
+unfolding over
+over-take n s t e = take-at s (drop (length s) t) n e
+
+-- leave the rest as it is
+pub over-drop : (n : ℕ) (s t : List ℕ) → length s ≡ n → drop n (over s t) ≡ drop n t
+unfolding over
+over-drop n s t e = drop-at s (drop (length s) t) n e ∙ ap (λ k. drop k t) e
+
+-- n zeros written over the start of a buffer
+pub zeros-take : (n : ℕ) (t : List ℕ) → take n (over (replicate n 0) t) ≡ replicate n 0
+zeros-take n t = over-take n (replicate n 0) t (length-replicate n 0)
+
+-- leave the rest as it is too
+pub zeros-drop : (n : ℕ) (t : List ℕ) → drop n (over (replicate n 0) t) ≡ drop n t
+zeros-drop n t = over-drop n (replicate n 0) t (length-replicate n 0)
+
+module _ (n : ℕ) (buffer : List ℕ) where
+  -- a walk that ended is not told as stopped
+  pub ended-verdict : (r : Result) → told n buffer (ended r) .verdict ≢ 14
+  unfolding told
+  ended-verdict (found t k) e = omega arith
+  ended-verdict (none k) e = omega arith
+
+  -- its tries are told
+  pub ended-tries : (r : Result) → told n buffer (ended r) .tries ≡ tries r
+  unfolding told
+  ended-tries (found t k) = refl
+  ended-tries (none k) = refl
+
+  -- walks with one table have one verdict
+  pub ended-same : (r' r : Result) → Quicker r' r → told n buffer (ended r') .verdict ≡ told n buffer (ended r) .verdict
+  unfolding told
+  ended-same (found t j) (found s k) q = refl
+  ended-same (found t j) (none k) q = cc
+  ended-same (none j) (found s k) q = cc
+  ended-same (none j) (none k) q = refl
+
+  -- and leave one buffer
+  pub ended-buffer : (r' r : Result) → Quicker r' r → told n buffer (ended r') .buffer ≡ told n buffer (ended r) .buffer
+  unfolding told
+  ended-buffer (found t j) (found s k) q = cc
+  ended-buffer (found t j) (none k) q = cc
+  ended-buffer (none j) (found s k) q = cc
+  ended-buffer (none j) (none k) q = refl
+
+-- where nothing is refused the search tells its walk under the limit
+pub search-told : (m : ℕ) (ts : List Task) (e b : ℕ) (buffer : List ℕ) → refusal m ts ≡ 0 → e ≤ 1 → cells (ownInstance m ts) ≤ length buffer
+    → search m ts e b buffer ≡ told (cells (ownInstance m ts)) buffer (limited b (walked e (ownInstance m ts)))
+unfolding search searchRefusal unless orNext
+search-told m ts e b buffer sound engine room = rw (sound, le-leb e 1 engine, le-leb (cells (ownInstance m ts)) (length buffer) room)

@@ -1,0 +1,6 @@
+pub mod Walk
+pub mod Limit
+pub mod Rules
+pub mod Right
+pub mod Search
+pub mod Machine

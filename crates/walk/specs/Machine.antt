@@ -1,0 +1,150 @@
+-- The walk on its arrays: a board, a table and the work left.
+-- Assumes nothing.
+use Prim.Native.Nat.{ℕ, zero, suc, _+_, _*_, _-_, _/_, _%_, _≤_, _<_, max}
+use mathlib.Core.Path.{_≡_}
+use mathlib.Core.Bool.{Bool, true, false, cond, not}
+use mathlib.Core.List.{List, [], _∷_}
+use lib.Dec.{leb, ltb, eqb}
+use lib.ListN.{length, set}
+use Rattle.laws.specs.Sum.{gate}
+use Rattle.laws.specs.Tests.{every, all, imp}
+use Rattle.laws.specs.Lists.{nth}
+use Rattle.laws.specs.Order.{rankOf}
+use Rattle.walk.specs.declared.Walked.{Walked}
+use Rattle.walk.specs.declared.End.{End}
+use Rattle.walk.specs.declared.End.the-variants.{Found, Nothing, Stopped}
+
+-- the value stands on none of the earlier cores of the slot that begins at cell first
+unfoldable pub freeOn : List ℕ → ℕ → ℕ → ℕ → Bool
+freeOn t first core v = all core (λ j. not (eqb (nth t (first + j)) v))
+
+-- the largest of g 0, .., g (n - 1), or 0
+unfoldable pub most : ℕ → (ℕ → ℕ) → ℕ
+most zero g = 0
+most (suc n) g = max (most n g) (g n)
+
+-- what stands on the board
+abbrev pub entryOn : List ℕ → ℕ → ℕ → ℕ
+entryOn board slot v = nth board (slot * 16 + v)
+
+abbrev pub rateOn : List ℕ → ℕ → ℕ → ℕ
+rateOn board v core = nth board (16384 + (v * 4 + core))
+
+abbrev pub evenOn : List ℕ → ℕ → ℕ
+evenOn board v = nth board (16448 + v)
+
+abbrev pub twinOn : List ℕ → ℕ → ℕ → ℕ
+twinOn board core j = nth board (16464 + (core * 4 + j))
+
+abbrev pub tasksOn : List ℕ → ℕ
+tasksOn board = nth board 16480
+
+abbrev pub coresOn : List ℕ → ℕ
+coresOn board = nth board 16481
+
+abbrev pub slotsOn : List ℕ → ℕ
+slotsOn board = nth board 16482
+
+abbrev pub cellsOn : List ℕ → ℕ
+cellsOn board = slotsOn board * coresOn board
+
+-- the counter of the job of task v in a slot
+abbrev pub counterOn : List ℕ → ℕ → ℕ → ℕ
+counterOn board slot v = entryOn board slot v / 2
+
+-- task v has a positive rate, within the work left, and stands on no earlier core of the slot
+unfoldable pub permittedOn : List ℕ → List ℕ → List ℕ → ℕ → ℕ → ℕ → ℕ → Bool
+permittedOn board t l first slot core v =
+    every (ltb 0 (rateOn board v core) ∷ leb (rateOn board v core) (nth l (counterOn board slot v)) ∷ freeOn t first core (v + 1) ∷ [])
+
+-- the rank of the value on core j of the slot, if that is an earlier twin; else 0
+unfoldable pub twinRankOn : List ℕ → List ℕ → ℕ → ℕ → ℕ → ℕ
+twinRankOn board t first core j = gate (not (eqb (twinOn board core j) 0)) (rankOf (tasksOn board) (nth t (first + j)))
+
+-- the highest rank of a value on an earlier twin, or 0
+unfoldable pub floorOn : List ℕ → List ℕ → ℕ → ℕ → ℕ
+floorOn board t first core = most core (twinRankOn board t first core)
+
+-- the job of task v has no work left, if this is its highest-numbered slot
+unfoldable pub settledOn : List ℕ → List ℕ → ℕ → ℕ → Bool
+settledOn board l slot v = imp (not (eqb (entryOn board slot v % 2) 0)) (eqb (nth l (counterOn board slot v)) 0)
+
+-- each job whose highest-numbered slot this is has no work left
+unfoldable pub closesOn : List ℕ → List ℕ → ℕ → Bool
+closesOn board l slot = all (tasksOn board) (settledOn board l slot)
+
+-- an end, the tries, the table and the work left
+pub record State : Type 0 where
+  pub end : End
+  pub tries : ℕ
+  pub table : List ℕ
+  pub left : List ℕ
+
+abbrev pub state : End → List ℕ → List ℕ → ℕ → State
+state e t l u = record { end = e; tries = u; table = t; left = l }
+
+-- go on where there is nothing, else stay
+abbrev pub orElse : End → State → (State → State) → State
+orElse Found r k = r
+orElse Nothing r k = k r
+orElse Stopped r k = r
+
+-- a walk onward from a table and the work left, with some tries used
+abbrev pub Onward : Type 0
+Onward = List ℕ → List ℕ → ℕ → State
+
+-- one more try, if the limit allows it
+abbrev pub oneMore : ℕ → List ℕ → List ℕ → ℕ → State → State
+oneMore limit t l u r = cond (eqb u limit) (state Stopped t l u) r
+
+-- the cell of core `core` in the slot: the values v + 1, v + 2, .., j of them, and then idle, with `barred` tasks seen that bar idle
+module _ (board : List ℕ) (limit first slot core : ℕ) (next : Onward) where
+  unfoldable pub idleLast : List ℕ → List ℕ → ℕ → ℕ → State
+  idleLast t l barred u = cond (eqb barred 0) (oneMore limit t l u (next (set t (first + core) 0) l (u + 1))) (state Nothing t l u)
+
+  unfoldable pub placed : List ℕ → List ℕ → ℕ → ℕ → State
+  placed t l v u =
+      next (set t (first + core) (v + 1)) (set l (counterOn board slot v) (nth l (counterOn board slot v) - rateOn board v core)) (u + 1)
+
+  unfoldable pub tryFrom : ℕ → ℕ → List ℕ → List ℕ → ℕ → ℕ → ℕ → State
+  tryFrom zero floor t l v barred u = idleLast t l barred u
+  tryFrom (suc j) floor t l v barred u =
+      cond (permittedOn board t l first slot core v)
+      (cond (leb floor (v + 1))
+      (oneMore limit t l u
+      (let r = placed t l v u in
+      orElse (r .end) r (λ s. tryFrom j floor (s .table) (set (s .left) (counterOn board slot v) (nth l (counterOn board slot v))) (v + 1) (barred + evenOn board v) (s .tries))))
+      (tryFrom j floor t l (v + 1) (barred + evenOn board v) u))
+      (tryFrom j floor t l (v + 1) barred u)
+
+-- from core to core, and from the last core to the next slot, or to the table's end; `walk` goes on from a cell
+unfoldable pub closeThen : List ℕ → (ℕ → ℕ → ℕ → Onward) → ℕ → ℕ → ℕ → Onward
+closeThen board walk first slot core t l u =
+    cond (ltb core (coresOn board)) (walk first slot core t l u)
+    (cond (closesOn board l slot)
+    (cond (ltb (slot + 1) (slotsOn board)) (walk (first + core) (slot + 1) 0 t l u) (state Found t l u))
+    (state Nothing t l u))
+
+-- the walk over the k cells left, from the cell of a core
+unfoldable pub walkOn : ℕ → List ℕ → ℕ → ℕ → ℕ → ℕ → Onward
+walkOn zero board limit first slot core t l u = state Nothing t l u
+walkOn (suc k) board limit first slot core t l u =
+    tryFrom board limit first slot core (closeThen board (walkOn k board limit) first slot (core + 1)) (tasksOn board) (floorOn board t first core) t l 0 0 u
+
+-- where the walk stands: in a slot, whose first cell is `first`, of a board of at most 16 tasks, 4 cores and 1024 slots
+pub record Fits (board : List ℕ) (first slot : ℕ) : Type 0 where
+  pub tasks : tasksOn board ≤ 16
+  pub cores : coresOn board ≤ 4
+  pub slots : slotsOn board ≤ 1024
+  pub first-is : first ≡ slot * coresOn board
+  pub slot-in : slot < slotsOn board
+
+-- what a walk from a cell answers and leaves
+pub record Ran (board : List ℕ) (limit first slot core : ℕ) (t l : List ℕ) (u : ℕ) (r : Walked) (t′ l′ : List ℕ) : Type 0 where
+  pub is : state (r .end) t′ l′ (r .tries) ≡ walkOn (cellsOn board - (first + core)) board limit first slot core t l u
+  pub most : r .tries ≤ limit
+
+-- the same after a cell, with the slot to close
+pub record Closed (board : List ℕ) (limit first slot core : ℕ) (t l : List ℕ) (u : ℕ) (r : Walked) (t′ l′ : List ℕ) : Type 0 where
+  pub is : state (r .end) t′ l′ (r .tries) ≡ closeThen board (walkOn (cellsOn board - (first + core)) board limit) first slot core t l u
+  pub most : r .tries ≤ limit
