@@ -13,9 +13,9 @@ use Rattle.tasks.specs.Window.{place, highest}
 use Rattle.tasks.specs.Instance.{instanceOf}
 use Rattle.table.specs.Table.{share, done, free}
 use Rattle.table.specs.Fault.{kindOf, cellKind, jobKind, jobFault, fault, Checked, refused, checked, inCell, inJob, check}
-use Rattle.walk.specs.Walk.{walk}
-use Rattle.walk.specs.Rules.{tests, permitted, settled, closed, evenRates, twin, idleTried, ruleA, ruleB, quickly}
-use Rattle.walk.specs.Search.{Searched, told, searchRefusal, search}
+use Rattle.rules.specs.Walk.{walk}
+use Rattle.rules.specs.Rules.{tests, permitted, settled, closed, evenRates, twin, idleTried, ruleA, ruleB, quickly}
+use Rattle.rules.specs.Search.{Searched, told, searchRefusal, search}
 use Rattle.player.specs.Played.{shownAt}
 
 -- a task (O, C, D, T) with its rates

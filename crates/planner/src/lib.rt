@@ -1,1 +1,1 @@
-// Nothing yet.
+// 01's worked cases over all definitions, in proofs/. No code yet.

@@ -1,1 +1,1 @@
-// Nothing yet.
+// A table as it is played, as definitions in specs/. No code yet.

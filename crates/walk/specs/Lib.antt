@@ -1,6 +1,1 @@
-pub mod Walk
-pub mod Limit
-pub mod Rules
-pub mod Right
-pub mod Search
 pub mod Machine

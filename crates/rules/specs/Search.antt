@@ -9,8 +9,8 @@ use Rattle.tasks.specs.declared.Task.{Task}
 use Rattle.tasks.specs.Refusal.{unless, orNext, refusal, tableLength}
 use Rattle.tasks.specs.Instance.{Instance, instanceOf}
 use Rattle.table.specs.Table.{cells}
-use Rattle.walk.specs.Walk.{Rule, Result, found, none, walk, Answer, ended, stopped, limited}
-use Rattle.walk.specs.Rules.{values, plain, quick}
+use Rattle.rules.specs.Walk.{Rule, Result, found, none, walk, Answer, ended, stopped, limited}
+use Rattle.rules.specs.Rules.{values, plain, quick}
 
 -- engine 0 is the plain walk, engine 1 the quick walk
 abbrev pub ruleOf : ℕ → Instance → Rule

@@ -12,14 +12,14 @@ use Rattle.tasks.specs.declared.Task.{Task}
 use Rattle.tasks.specs.Refusal.{refusal}
 use Rattle.tasks.specs.Instance.{Instance, Regular}
 use Rattle.table.specs.Table.{cells}
-use Rattle.walk.specs.Walk.{Result, tries, ended, stopped, limited}
-use Rattle.walk.specs.Right.{ownInstance, Quicker}
-use Rattle.walk.specs.Rules.{values}
-use Rattle.walk.specs.Limit.{bwalk}
-use Rattle.walk.specs.Search.{ruleOf, walked, Searched, told, search}
-use Rattle.walk.proofs.Limit.{within, past, bwalk-limited}
-use Rattle.walk.proofs.Quick.{quick-same}
-use Rattle.walk.proofs.Told.{ended-verdict, ended-tries, ended-same, ended-buffer, search-told}
+use Rattle.rules.specs.Walk.{Result, tries, ended, stopped, limited}
+use Rattle.rules.specs.Right.{ownInstance, Quicker}
+use Rattle.rules.specs.Rules.{values}
+use Rattle.rules.specs.Limit.{bwalk}
+use Rattle.rules.specs.Search.{ruleOf, walked, Searched, told, search}
+use Rattle.rules.proofs.Limit.{within, past, bwalk-limited}
+use Rattle.rules.proofs.Quick.{quick-same}
+use Rattle.rules.proofs.Told.{ended-verdict, ended-tries, ended-same, ended-buffer, search-told}
 
 -- ---- statements
 -- the two walks of an instance

@@ -23,11 +23,11 @@ use Rattle.table.specs.Table.{cells, slotOf, coreOf, share, done, workLeft, Val
 use Rattle.table.proofs.JobLaws.{slot-job, end-there}
 use Rattle.table.proofs.ShareLaws.{share-own, share-job, share-some}
 use Rattle.table.proofs.TableLaws.{slot-there, done-same, free-same, make-free, free-apart, done-end}
-use Rattle.walk.specs.Rules.{tests, permitted, settled, closed, plain, values, rank}
-use Rattle.walk.specs.Right.{Clean, Passes, Right}
-use Rattle.walk.specs.Search.{walked}
-use Rattle.walk.proofs.First.{right-same, walk-right}
-use Rattle.walk.proofs.Cells.{clean-passes, passes-clean}
+use Rattle.rules.specs.Rules.{tests, permitted, settled, closed, plain, values, rank}
+use Rattle.rules.specs.Right.{Clean, Passes, Right}
+use Rattle.rules.specs.Search.{walked}
+use Rattle.rules.proofs.First.{right-same, walk-right}
+use Rattle.rules.proofs.Cells.{clean-passes, passes-clean}
 
 -- the values stand in their order
 pub values-rising : (P : Instance) → Rising (rank P) (values P)

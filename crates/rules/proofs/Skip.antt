@@ -8,9 +8,9 @@ use mathlib.Core.Bool.{Bool, true, false}
 use mathlib.Core.List.{List, [], _∷_, _++_}
 use lib.Dec.{T}
 use Rattle.laws.specs.Order.{Rising}
-use Rattle.walk.specs.Walk.{Rule, Result, found, none, spend, gate, orElse, tryAll, walk}
-use Rattle.walk.specs.Right.{Starts, starts, Clean, First, Right, first, nowhere, Stricter, Quicker}
-use Rattle.walk.proofs.First.{walk-right}
+use Rattle.rules.specs.Walk.{Rule, Result, found, none, spend, gate, orElse, tryAll, walk}
+use Rattle.rules.specs.Right.{Starts, starts, Clean, First, Right, first, nowhere, Stricter, Quicker}
+use Rattle.rules.proofs.First.{walk-right}
 
 -- r' agrees with r, unless r found a list that Q does not allow
 data Follows (Q : List ℕ → Type 0) : Result → Result → Type 0 where

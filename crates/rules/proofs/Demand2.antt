@@ -12,16 +12,16 @@ use Rattle.tasks.specs.declared.Task.{Task}
 use Rattle.tasks.specs.Refusal.{refusal}
 use Rattle.tasks.specs.Instance.{Instance, Regular}
 use Rattle.table.specs.Table.{cells, Table}
-use Rattle.walk.specs.Walk.{Result, found, none, tries, ended, stopped, limited}
-use Rattle.walk.specs.Rules.{values, rank, plain}
-use Rattle.walk.specs.Right.{ownInstance, Clean, First, Right, first, nowhere}
-use Rattle.walk.specs.Search.{walked, Searched, told, search}
-use Rattle.walk.proofs.Limit.{within, past}
-use Rattle.walk.proofs.Skip.{quicker-right}
-use Rattle.walk.proofs.Plain.{clean-table, table-clean, plain-right}
-use Rattle.walk.proofs.Quick.{quick-same}
-use Rattle.walk.proofs.Only.{first-one}
-use Rattle.walk.proofs.Told.{over-take, over-drop, zeros-take, zeros-drop, search-told}
+use Rattle.rules.specs.Walk.{Result, found, none, tries, ended, stopped, limited}
+use Rattle.rules.specs.Rules.{values, rank, plain}
+use Rattle.rules.specs.Right.{ownInstance, Clean, First, Right, first, nowhere}
+use Rattle.rules.specs.Search.{walked, Searched, told, search}
+use Rattle.rules.proofs.Limit.{within, past}
+use Rattle.rules.proofs.Skip.{quicker-right}
+use Rattle.rules.proofs.Plain.{clean-table, table-clean, plain-right}
+use Rattle.rules.proofs.Quick.{quick-same}
+use Rattle.rules.proofs.Only.{first-one}
+use Rattle.rules.proofs.Told.{over-take, over-drop, zeros-take, zeros-drop, search-told}
 
 -- ---- statements
 -- the walks of an instance

@@ -12,8 +12,8 @@ use Rattle.laws.specs.Order.{rankOf, Before}
 use Rattle.laws.proofs.SumLaws.{lt-or-ge}
 use Rattle.tasks.specs.Instance.{Instance}
 use Rattle.table.specs.Table.{Table}
-use Rattle.walk.specs.Rules.{rank}
-use Rattle.walk.specs.Right.{First}
+use Rattle.rules.specs.Rules.{rank}
+use Rattle.rules.specs.Right.{First}
 
 -- values of one rank are the same
 rank-same : (n v w : ℕ) → v ≤ n → w ≤ n → rankOf n v ≡ rankOf n w → v ≡ w

@@ -4,7 +4,7 @@ use Prim.Native.Nat.{ℕ, zero, suc, _+_}
 use mathlib.Core.Bool.{Bool, true, false}
 use mathlib.Core.List.{List, [], _∷_, _++_}
 use lib.Dec.{leb}
-use Rattle.walk.specs.Walk.{Rule, found, none, Answer, ended, stopped}
+use Rattle.rules.specs.Walk.{Rule, found, none, Answer, ended, stopped}
 
 -- the walk under a limit goes on from j tries, if they are within the limit of b
 abbrev pub allow : Bool → ℕ → ℕ → (ℕ → Answer) → Answer

@@ -23,12 +23,12 @@ use Rattle.table.proofs.JobLaws.{slot-job}
 use Rattle.table.proofs.ShareLaws.{share-own, share-some}
 use Rattle.table.proofs.TableLaws.{slot-there, beside-slot, beside-core, beside-before, free-apart, valid-same}
 use Rattle.table.proofs.SwapLaws.{swapped, Moves, Alone, swapped-a, swapped-other, twins-valid, move-valid}
-use Rattle.walk.specs.Rules.{tests, permitted, plain, values, rank, evenRates, twin, idleTried, ruleA, ruleB, quickly, quick}
-use Rattle.walk.specs.Right.{Clean, Passes, First, Stricter, Quicker}
-use Rattle.walk.specs.Search.{walked}
-use Rattle.walk.proofs.Cells.{clean-passes, passes-clean}
-use Rattle.walk.proofs.Skip.{skip}
-use Rattle.walk.proofs.Plain.{permitted-holds, permitted-within, permitted-same, valid-walked, clean-table, table-clean, values-rising}
+use Rattle.rules.specs.Rules.{tests, permitted, plain, values, rank, evenRates, twin, idleTried, ruleA, ruleB, quickly, quick}
+use Rattle.rules.specs.Right.{Clean, Passes, First, Stricter, Quicker}
+use Rattle.rules.specs.Search.{walked}
+use Rattle.rules.proofs.Cells.{clean-passes, passes-clean}
+use Rattle.rules.proofs.Skip.{skip}
+use Rattle.rules.proofs.Plain.{permitted-holds, permitted-within, permitted-same, valid-walked, clean-table, table-clean, values-rising}
 
 -- no valid table comes before f: none has f's cells before a and a value of lower rank in cell a
 Least : Instance → (ℕ → ℕ) → Type 0

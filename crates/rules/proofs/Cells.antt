@@ -10,8 +10,8 @@ use lib.ListN.{take}
 use lib.Seq.{append-snoc, take-nil}
 use Rattle.laws.specs.Lists.{nth}
 use Rattle.laws.specs.Order.{In}
-use Rattle.walk.specs.Walk.{Rule}
-use Rattle.walk.specs.Right.{empty, starts, Clean, Passes}
+use Rattle.rules.specs.Walk.{Rule}
+use Rattle.rules.specs.Right.{empty, starts, Clean, Passes}
 
 module _ {R : Rule} {vs : List ℕ} where
   -- one more cell in front

@@ -8,8 +8,8 @@ use mathlib.Core.Bool.{Bool, true, false, not}
 use mathlib.Core.List.{List, [], _∷_, _++_}
 use lib.Dec.{T, leb, leb→le, nleb→lt}
 use borrow.Author.Tests.{le-leb, lt-leb}
-use Rattle.walk.specs.Walk.{Rule, Result, found, none, tries, spend, gate, orElse, tryAll, walk, Answer, ended, stopped, cap, limited}
-use Rattle.walk.specs.Limit.{allow, bgate, bnext, btryAll, bwalk}
+use Rattle.rules.specs.Walk.{Rule, Result, found, none, tries, spend, gate, orElse, tryAll, walk, Answer, ended, stopped, cap, limited}
+use Rattle.rules.specs.Limit.{allow, bgate, bnext, btryAll, bwalk}
 
 -- the tries of a result with more tries
 tries-spend : (c : ℕ) (r : Result) → tries (spend c r) ≡ c + tries r

@@ -10,7 +10,7 @@ use Rattle.laws.specs.Order.{In, Before}
 use Rattle.tasks.specs.declared.Task.{Task}
 use Rattle.tasks.specs.Refusal.{tableLength}
 use Rattle.tasks.specs.Instance.{Instance, instanceOf}
-use Rattle.walk.specs.Walk.{Rule, Result, found, none, table, tries}
+use Rattle.rules.specs.Walk.{Rule, Result, found, none, table, tries}
 
 -- the instance of a task list on m cores in its own H slots
 abbrev pub ownInstance : ℕ → List Task → Instance

@@ -12,9 +12,9 @@ use Rattle.laws.specs.Lists.{over}
 use Rattle.tasks.specs.declared.Task.{Task}
 use Rattle.tasks.specs.Refusal.{unless, orNext, refusal}
 use Rattle.table.specs.Table.{cells}
-use Rattle.walk.specs.Walk.{Result, found, none, tries, ended, limited}
-use Rattle.walk.specs.Right.{ownInstance, Quicker}
-use Rattle.walk.specs.Search.{walked, told, searchRefusal, search}
+use Rattle.rules.specs.Walk.{Result, found, none, tries, ended, limited}
+use Rattle.rules.specs.Right.{ownInstance, Quicker}
+use Rattle.rules.specs.Search.{walked, told, searchRefusal, search}
 
 -- n cells written over the start of a buffer
 pub over-take : (n : ℕ) (s t : List ℕ) → length s ≡ n → take n (over s t) ≡ s

@@ -10,7 +10,7 @@ use Rattle.laws.specs.Lists.{nth}
 use Rattle.laws.specs.Order.{upTo, rankOf}
 use Rattle.tasks.specs.Instance.{Instance, jobEnd}
 use Rattle.table.specs.Table.{slotOf, coreOf, beside, workLeft, free}
-use Rattle.walk.specs.Walk.{Rule}
+use Rattle.rules.specs.Walk.{Rule}
 
 -- values are ordered 1, 2, .., n, then idle last
 abbrev pub values : Instance → List ℕ

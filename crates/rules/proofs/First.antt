@@ -8,8 +8,8 @@ use mathlib.Core.Bool.{Bool, true, false}
 use mathlib.Core.List.{List, [], _∷_, _++_}
 use lib.Dec.{T}
 use Rattle.laws.specs.Order.{In, Before, Rising, last, next}
-use Rattle.walk.specs.Walk.{Rule, Result, spend, gate, orElse, tryAll, walk}
-use Rattle.walk.specs.Right.{empty, Starts, starts, Clean, Right, first, nowhere}
+use Rattle.rules.specs.Walk.{Rule, Result, spend, gate, orElse, tryAll, walk}
+use Rattle.rules.specs.Right.{empty, Starts, starts, Clean, Right, first, nowhere}
 
 -- what starts with a value of vs starts with v or a value of vs
 widen : {G : ℕ → List ℕ → Type 0} {v : ℕ} {vs s : List ℕ} → Starts vs G s → Starts (v ∷ vs) G s

@@ -1,0 +1,10 @@
+pub mod First
+pub mod Limit
+pub mod Skip
+pub mod Cells
+pub mod Only
+pub mod Plain
+pub mod Quick
+pub mod Told
+pub mod Demand2
+pub mod Demand3
