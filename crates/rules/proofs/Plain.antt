@@ -168,17 +168,17 @@ module _ (P : Instance) (c : ℕ) (f g : ℕ → ℕ) (same : (d : ℕ) → d < 
   permitted-same (suc v) = rw (done-same P c f g same (suc v) (P .job (suc v) (slotOf P c)), free-same P c f g same (suc v))
 
   -- whether the walk goes on
-  closed-same : closed P c f ≡ closed P c g
+  pub closed-same : closed P c f ≡ closed P c g
   unfolding closed settled
   closed-same = all-same (P .tasks) _ _ (λ i l. all-same (P .jobs (suc i)) _ _ (λ k j. rw (done-same P c f g same (suc i) k)))
 
 module _ (P : Instance) (c : ℕ) (t : List ℕ) (l : c ≤ length t) where
   -- the rule at a prefix of a table is the rule at the table's cells
-  prefix-permitted : (v : ℕ) → permitted P (length (take c t)) (nth (take c t)) v ≡ permitted P c (nth t) v
+  pub prefix-permitted : (v : ℕ) → permitted P (length (take c t)) (nth (take c t)) v ≡ permitted P c (nth t) v
   prefix-permitted v = rw (length-take-le c t l) (permitted-same P c (nth (take c t)) (nth t) (λ d i. getD-take c t d 0 i) v)
 
   -- and so is whether the walk goes on
-  prefix-closed : closed P (length (take c t)) (nth (take c t)) ≡ closed P c (nth t)
+  pub prefix-closed : closed P (length (take c t)) (nth (take c t)) ≡ closed P c (nth t)
   prefix-closed = rw (length-take-le c t l) (closed-same P c (nth (take c t)) (nth t) (λ d i. getD-take c t d 0 i))
 
 module _ (P : Instance) (regular : Regular P) (t : List ℕ) where

@@ -158,7 +158,7 @@ module _ (P : Instance) (c : ℕ) (f g : ℕ → ℕ) (same : (d : ℕ) → d < 
   ruleB-same u = all-same (coreOf P c) _ _ (λ j l. rw (same (beside P c j) (beside-before P c j l)))
 
   -- the quick rule
-  quickly-same : (u : ℕ) → quickly P c f u ≡ quickly P c g u
+  pub quickly-same : (u : ℕ) → quickly P c f u ≡ quickly P c g u
   unfolding quickly
   quickly-same u = rw (permitted-same P c f g same u, ruleA-same u, ruleB-same u)
 
@@ -172,7 +172,7 @@ quick-stricter P = record {
 }
 
 -- the quick rule at a prefix of a table is the rule at the table's cells
-prefix-quickly : (P : Instance) (c : ℕ) (t : List ℕ) → c ≤ length t → (u : ℕ) → quickly P (length (take c t)) (nth (take c t)) u ≡ quickly P c (nth t) u
+pub prefix-quickly : (P : Instance) (c : ℕ) (t : List ℕ) → c ≤ length t → (u : ℕ) → quickly P (length (take c t)) (nth (take c t)) u ≡ quickly P c (nth t) u
 prefix-quickly P c t l u = rw (length-take-le c t l) (quickly-same P c (nth (take c t)) (nth t) (λ d i. getD-take c t d 0 i) u)
 
 -- the quick walk tries each cell of the first table

@@ -1,2 +1,5 @@
 pub mod MachineLaws
 pub mod TurnLaws
+pub mod ReadyLaws
+pub mod ObeyLaws
+pub mod RefineLaws

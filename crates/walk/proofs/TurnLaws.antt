@@ -47,7 +47,7 @@ module _ {board : List ℕ} {first slot : ℕ} (fits : Fits board first slot) wh
   }
 
 -- an end that is not Nothing is kept
-kept : (e : End) (r : State) (k : State → State) → OneOf (0 ∷ 2 ∷ []) (tagOf the-type e) → orElse e r k ≡ r
+pub kept : (e : End) (r : State) (k : State → State) → OneOf (0 ∷ 2 ∷ []) (tagOf the-type e) → orElse e r k ≡ r
 kept Found r k h = refl
 kept Stopped r k h = refl
 kept Nothing r k h = ⊎-elim (λ p. absurd (omega arith)) (λ p. absurd (omega arith)) h
@@ -55,32 +55,32 @@ kept Nothing r k h = ⊎-elim (λ p. absurd (omega arith)) (λ p. absurd (omega 
 -- ---- one value
 module _ (board : List ℕ) (limit first slot core : ℕ) (next : Onward) (j floor : ℕ) (t l : List ℕ) (v barred u : ℕ) where
   -- it is not permitted
-  skip : permittedOn board t l first slot core v ≡ false
+  pub skip : permittedOn board t l first slot core v ≡ false
       → tryFrom board limit first slot core next (suc j) floor t l v barred u ≡ tryFrom board limit first slot core next j floor t l (v + 1) barred u
   unfolding tryFrom
   skip h = rw h
 
   module _ (p : permittedOn board t l first slot core v ≡ true) where
     -- rule B bars it
-    barred-by-B : v + 1 < floor
+    pub barred-by-B : v + 1 < floor
         → tryFrom board limit first slot core next (suc j) floor t l v barred u ≡ tryFrom board limit first slot core next j floor t l (v + 1) (barred + evenOn board v) u
     unfolding tryFrom
     barred-by-B h = rw (p, lt-leb floor (v + 1) h)
 
     module _ (h : floor ≤ v + 1) where
       -- the limit is used up
-      stop : u ≡ limit → tryFrom board limit first slot core next (suc j) floor t l v barred u ≡ state Stopped t l u
+      pub stop : u ≡ limit → tryFrom board limit first slot core next (suc j) floor t l v barred u ≡ state Stopped t l u
       unfolding tryFrom
       stop e = rw (p, le-leb floor (v + 1) h, eq-eqb u limit e)
 
       module _ (e : u ≢ limit) (r : State) (is : placed board limit first slot core next t l v u ≡ r) where
-        tried : tryFrom board limit first slot core next (suc j) floor t l v barred u
+        pub tried : tryFrom board limit first slot core next (suc j) floor t l v barred u
             ≡ orElse (r .end) r (λ s. tryFrom board limit first slot core next j floor (s .table) (set (s .left) (counterOn board slot v) (nth l (counterOn board slot v))) (v + 1) (barred + evenOn board v) (s .tries))
         unfolding tryFrom
         tried = rw (p, le-leb floor (v + 1) h, ne-eqb u limit e, is)
 
         -- nothing is found below it
-        back : r .end ≡ Nothing → tryFrom board limit first slot core next (suc j) floor t l v barred u
+        pub back : r .end ≡ Nothing → tryFrom board limit first slot core next (suc j) floor t l v barred u
             ≡ tryFrom board limit first slot core next j floor (r .table) (set (r .left) (counterOn board slot v) (nth l (counterOn board slot v))) (v + 1) (barred + evenOn board v) (r .tries)
         back n = tried ∙ ap (λ (x : End). orElse x r (λ s. tryFrom board limit first slot core next j floor (s .table) (set (s .left) (counterOn board slot v) (nth l (counterOn board slot v))) (v + 1) (barred + evenOn board v) (s .tries))) n
 

@@ -1,1 +1,2 @@
 pub mod Machine
+pub mod Ready

@@ -1,0 +1,137 @@
+-- The values that the arrays let through are those that the engine's rule tries.
+-- Assumes nothing.
+use Prim.Native.Nat.{ℕ, zero, suc, _+_, _*_, _≤_, _<_, max}
+use native.Mathlib.Omega.{arith}
+use native.Mathlib.Numerals.{add-one}
+use mathlib.Core.Path.{_≡_, refl, sym, ap, ap₂, _∙_}
+use mathlib.Core.Bool.{Bool, true, false, not, _&&_}
+use mathlib.Core.List.{List}
+use lib.Dec.{T, leb, eqb, leb→le, le→leb, eqb→eq}
+use borrow.Author.Tests.{le-leb, eq-eqb}
+use lib.ListN.{length, take}
+use Rattle.laws.specs.Sum.{gate, sum}
+use Rattle.laws.specs.Tests.{all, imp}
+use Rattle.laws.specs.Lists.{nth}
+use Rattle.laws.specs.Order.{rankOf}
+use Rattle.laws.proofs.TestLaws.{both, make-both, all-same, all-true}
+use Rattle.laws.proofs.SumLaws.{sum-zero}
+use Rattle.tasks.specs.Instance.{Instance}
+use Rattle.table.specs.Table.{coreOf, beside}
+use Rattle.table.proofs.TableLaws.{beside-before}
+use Rattle.rules.specs.Rules.{permitted, closed, rank, evenRates, twin, idleTried, ruleA, ruleB, quickly}
+use Rattle.rules.specs.Search.{ruleOf}
+use Rattle.rules.proofs.Plain.{prefix-permitted, prefix-closed}
+use Rattle.rules.proofs.Quick.{prefix-quickly}
+use Rattle.walk.specs.Machine.{most, evenOn, twinOn, tasksOn, permittedOn, twinRankOn, floorOn}
+use Rattle.walk.specs.Ready.{Small, Ready, Lefts}
+use Rattle.walk.proofs.ReadyLaws.{test-same, core-is, beside-at, permitted-is}
+
+-- ---- numbers and tests
+-- the largest is at most x exactly if each is
+leb-most : (n : ℕ) (g : ℕ → ℕ) (x : ℕ) → leb (most n g) x ≡ all n (λ j. leb (g j) x)
+unfolding most
+leb-most zero g x = le-leb 0 x (omega arith)
+leb-most (suc n) g x = leb-max (most n g) (g n) ∙ ap (λ b. b && leb (g n) x) (leb-most n g x)
+  where
+    leb-max : (a b : ℕ) → leb (max a b) x ≡ leb a x && leb b x
+    leb-max a b = test-same _ _
+        (λ h. let l = leb→le (max a b) x h in make-both (leb a x) (leb b x) (le→leb a x (omega arith)) (le→leb b x (omega arith)))
+        (λ h. let p = both (leb a x) (leb b x) h in le→leb (max a b) x (omega (arith, leb→le a x (p .0), leb→le b x (p .1))))
+
+-- a sum is 0 exactly if each term is
+eqb-sum : (n : ℕ) (g : ℕ → ℕ) → eqb (sum n g) 0 ≡ all n (λ j. eqb (g j) 0)
+unfolding sum
+eqb-sum zero g = refl
+eqb-sum (suc n) g = eqb-add (sum n g) (g n) ∙ ap (λ b. b && eqb (g n) 0) (eqb-sum n g)
+  where
+    eqb-add : (a b : ℕ) → eqb (a + b) 0 ≡ eqb a 0 && eqb b 0
+    eqb-add a b = test-same _ _
+        (λ h. let l = eqb→eq (a + b) 0 h in make-both (eqb a 0) (eqb b 0) (rw (eq-eqb a 0 (omega arith)) tt) (rw (eq-eqb b 0 (omega arith)) tt))
+        (λ h. let p = both (eqb a 0) (eqb b 0) h in rw (eq-eqb (a + b) 0 (omega (arith, eqb→eq a 0 (p .0), eqb→eq b 0 (p .1)))) tt)
+
+-- the rank on a twin is at most x
+leb-twin : (b : Bool) (r x : ℕ) → leb (gate (not (eqb (gate b 1) 0)) r) x ≡ imp b (leb r x)
+unfolding gate
+leb-twin true r x = refl
+leb-twin false r x = le-leb 0 x (omega arith)
+
+-- a task that may stand there does not bar idle
+eqb-even : (p b : Bool) → eqb (gate p (gate b 1)) 0 ≡ imp p (not b)
+unfolding gate
+eqb-even true true = refl
+eqb-even true false = refl
+eqb-even false b = refl
+
+-- the rank of idle is the highest
+rank-last : (n v : ℕ) → v ≤ n → rankOf n v ≤ suc n
+rank-last n zero l = omega arith
+rank-last n (suc v) l = omega arith
+
+-- two tests, the second of which passes
+and-true : (b c : Bool) → c ≡ true → b && c ≡ b
+and-true true c e = e
+and-true false c e = refl
+
+-- what passes after any test
+imp-true : (b : Bool) → imp b true ≡ true
+imp-true true = refl
+imp-true false = refl
+
+-- rule B never bars idle
+idle-ranked : (P : Instance) (c : ℕ) (f : ℕ → ℕ) → ((d : ℕ) → d < c → f d ≤ P .tasks) → ruleB P c f 0 ≡ true
+unfolding ruleB
+idle-ranked P c f known = all-true (coreOf P c) _ (λ j lj.
+    ap (imp (twin P j (coreOf P c))) (le-leb _ _ (rank-last (P .tasks) (f (beside P c j)) (known (beside P c j) (beside-before P c j lj)))) ∙ imp-true (twin P j (coreOf P c)))
+
+-- what a try costs
+pub cost-one : (P : Instance) (e : ℕ) (p : List ℕ) (v : ℕ) → ruleOf e P .cost p v ≡ 1
+cost-one P zero p v = refl
+cost-one P (suc e) p v = refl
+
+-- where the walk goes on
+pub closes-prefix : (P : Instance) (e c : ℕ) (t : List ℕ) → c ≤ length t → ruleOf e P .closes (take c t) ≡ closed P c (nth t)
+closes-prefix P zero c t room = prefix-closed P c t room
+closes-prefix P (suc e) c t room = prefix-closed P c t room
+
+module _ {P : Instance} (small : Small P) (board : List ℕ) {first slot core : ℕ} (ef : first ≡ slot * P .cores) (ls : slot < P .slots) (lc : core < P .cores)
+    (t l : List ℕ) (room : first + core ≤ length t) (lefts : Lefts P (first + core) (nth t) l) where
+  -- what the plain rule permits
+  plain-is : {e : ℕ} → Ready P e board → (v : ℕ) → v < P .tasks → permitted P (length (take (first + core) t)) (nth (take (first + core) t)) (suc v) ≡ permittedOn board t l first slot core v
+  plain-is ready v lv = prefix-permitted P (first + core) t room (suc v) ∙ sym (permitted-is small ready ef ls lc t l lefts v lv)
+
+  -- the plain rule knows no twins
+  floor-plain : Ready P 0 board → (v : ℕ) → leb (floorOn board t first core) (v + 1) ≡ true
+  unfolding floorOn twinRankOn
+  floor-plain ready v = leb-most core _ (v + 1) ∙ all-true core _ (λ j lj. rw (ready .twins core j lc lj) (leb-twin false (rankOf (tasksOn board) (nth t (first + j))) (v + 1)))
+
+  -- rule B
+  floor-quick : {e : ℕ} → Ready P (suc e) board → (v x : ℕ) → rank P v ≡ x → leb (floorOn board t first core) x ≡ ruleB P (first + core) (nth t) v
+  unfolding floorOn twinRankOn ruleB
+  floor-quick ready v x ev = leb-most core _ x ∙ all-same core _ _ (λ j lj.
+      rw (ready .twins core j lc lj, ready .tasks) (leb-twin (twin P j core) (rank P (nth t (first + j))) x)
+      ∙ ap₂ (λ b y. imp b (leb (rank P (nth t y)) x)) (ap (twin P j) (sym (core-is small ready ef ls lc))) (sym (beside-at small ready ef ls lc j))
+      ∙ ap (λ y. imp (twin P j (coreOf P (first + core))) (leb (rank P (nth t (beside P (first + core) j))) y)) (sym ev))
+      ∙ ap (λ n. all n (λ j. imp (twin P j (coreOf P (first + core))) (leb (rank P (nth t (beside P (first + core) j))) (rank P v)))) (sym (core-is small ready ef ls lc))
+
+  -- the tasks that are tried
+  pub task-tried : (e : ℕ) → Ready P e board → (v : ℕ) → v < P .tasks
+      → ruleOf e P .tried (take (first + core) t) (suc v) ≡ permittedOn board t l first slot core v && leb (floorOn board t first core) (v + 1)
+  unfolding quickly ruleA
+  task-tried zero ready v lv = plain-is ready v lv ∙ sym (and-true _ _ (floor-plain ready v))
+  task-tried (suc e) ready v lv = prefix-quickly P (first + core) t room (suc v)
+      ∙ ap₂ (λ a b. a && (true && (b && true))) (sym (permitted-is small ready ef ls lc t l lefts v lv)) (sym (floor-quick ready (suc v) (v + 1) (sym (add-one v))))
+      ∙ ap (λ b. permittedOn board t l first slot core v && b) (and-true _ true refl)
+
+  -- whether idle is tried
+  pub idle-tried : (e : ℕ) → Ready P e board → ((d : ℕ) → d < first + core → nth t d ≤ P .tasks)
+      → ruleOf e P .tried (take (first + core) t) 0 ≡ eqb (sum (tasksOn board) (λ v. gate (permittedOn board t l first slot core v) (evenOn board v))) 0
+  unfolding quickly permitted ruleA idleTried
+  idle-tried zero ready known = sym (eqb-sum (tasksOn board) _
+      ∙ all-true (tasksOn board) _ (λ v lv. rw (ready .evens v (rw (ready .tasks) at lv)) (eqb-even (permittedOn board t l first slot core v) false ∙ imp-true (permittedOn board t l first slot core v))))
+  idle-tried (suc e) ready known = prefix-quickly P (first + core) t room 0
+      ∙ ap₂ (λ a b. true && (a && (b && true))) (sym evens) (idle-ranked P (first + core) (nth t) known)
+      ∙ and-true _ true refl
+    where
+      evens : eqb (sum (tasksOn board) (λ v. gate (permittedOn board t l first slot core v) (evenOn board v))) 0 ≡ idleTried P (first + core) (nth t)
+      evens = eqb-sum (tasksOn board) _ ∙ rw (ready .tasks) (all-same (P .tasks) _ _ (λ v lv.
+          rw (ready .evens v lv, permitted-is small ready ef ls lc t l lefts v lv) (eqb-even (permitted P (first + core) (nth t) (suc v)) (evenRates P (suc v)))))

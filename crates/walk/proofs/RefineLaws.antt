@@ -1,0 +1,485 @@
+-- The walk on its arrays is the walk of the engine's rule under the limit.
+-- Assumes nothing.
+use Prim.Native.Nat.{ℕ, zero, suc, _+_, _*_, _-_, _≤_, _<_, pred}
+use native.Mathlib.Omega.{arith}
+use native.Mathlib.Numerals.{add-one}
+use native.Mathlib.Decide.{ℕ-discrete}
+use native.Mathlib.Nat.{add-zero, add-assoc, mul-le-mul-right}
+use mathlib.Core.Path.{_≡_, refl, sym, ap, subst, subst₂, _∙_}
+use mathlib.Core.Logic.{_≢_, ⊎-elim}
+use mathlib.Core.Bool.{Bool, true, false, not, _&&_}
+use mathlib.Core.List.{List, [], _∷_, _++_}
+use lib.Dec.{T, leb, ltb, eqb, leb→le}
+use borrow.Author.Tests.{lt-ltb, le-ltb, le-leb, lt-leb, eq-eqb, ne-eqb, leb-true, leb-false}
+use lib.ListN.{length, take, drop, set, length-set}
+use lib.Seq.{drop-cons, take-take, take-suc-set, getD-take, getD-set-same, getD-set-other, take-set-le, set-set, set-getD}
+use Rattle.laws.specs.Sum.{gate, sum}
+use Rattle.laws.specs.Lists.{nth}
+use Rattle.laws.specs.Order.{upTo}
+use Rattle.tasks.specs.Instance.{Instance}
+use Rattle.laws.proofs.SumLaws.{lt-or-ge}
+use Rattle.laws.proofs.TestLaws.{all-same}
+use Rattle.table.specs.Table.{cells}
+use Rattle.table.proofs.TableLaws.{done-same}
+use Rattle.rules.specs.Walk.{Rule, found, none, Answer, ended, stopped}
+use Rattle.rules.specs.Limit.{allow, bgate, bnext, btryAll, bwalk}
+use Rattle.rules.specs.Rules.{values, permitted, closed}
+use Rattle.rules.specs.Search.{ruleOf}
+use Rattle.walk.specs.declared.End.{End}
+use Rattle.walk.specs.declared.End.the-variants.{Found, Nothing, Stopped}
+use Rattle.walk.specs.Machine.{State, state, Onward, orElse, counterOn, rateOn, evenOn, tasksOn, coresOn, slotsOn, freeOn, permittedOn, floorOn, closesOn, idleLast, placed, tryFrom, closeThen, walkOn}
+use Rattle.walk.specs.Ready.{Small, Ready, Lefts}
+use Rattle.walk.proofs.TurnLaws.{skip, barred-by-B, stop, tried, back}
+use Rattle.walk.proofs.ReadyLaws.{closes-is, closed-within, permitted-tells, lefts-idle, lefts-put}
+use Rattle.walk.proofs.ObeyLaws.{cost-one, closes-prefix, task-tried, idle-tried}
+
+-- what an end tells from cell c on, of n cells
+pub toldAt : End → ℕ → ℕ → List ℕ → ℕ → Answer
+toldAt Found n c t u = ended (found (take (n - c) (drop c t)) u)
+toldAt Nothing n c t u = ended (none u)
+toldAt Stopped n c t u = stopped u
+
+-- a state tells an answer from cell c on, has the table's earlier cells as they were and, if it found nothing, the work left too
+pub record Shows (b n c : ℕ) (t l : List ℕ) (s : State) (a : Answer) : Type 0 where
+  pub answer : toldAt (s .end) n c (s .table) (s .tries) ≡ a
+  pub prefix : take c (s .table) ≡ take c t
+  pub long : length (s .table) ≡ length t
+  pub most : s .tries ≤ b
+  pub again : s .end ≡ Nothing → s .left ≡ l
+
+-- the same for an equal state and an equal answer
+pub shows-same : {b n c : ℕ} {t l : List ℕ} {s s′ : State} {a a′ : Answer} → s′ ≡ s → a′ ≡ a → Shows b n c t l s a → Shows b n c t l s′ a′
+shows-same {b} {n} {c} {t} {l} es ea h = subst₂ (Shows b n c t l) (sym es) (sym ea) h
+
+-- an end is Nothing, or not
+end-cases : {X : Type 0} (e : End) → (e ≡ Nothing → X) → ((e ≡ Nothing → ⊥) → X) → X
+end-cases Found f g = g (λ z. let y : _≡_ {A = ℕ} 0 1 = cc in omega arith)
+end-cases Nothing f g = f refl
+end-cases Stopped f g = g (λ z. let y : _≡_ {A = ℕ} 0 1 = cc in omega arith)
+
+-- a walk that has ended stays as it is
+or-else-stays : (e : End) (r : State) (k : State → State) → (e ≡ Nothing → ⊥) → orElse e r k ≡ r
+or-else-stays Found r k x = refl
+or-else-stays Nothing r k x = absurd (x refl)
+or-else-stays Stopped r k x = refl
+
+-- Stopped is not Nothing
+stopped-apart : _≡_ {A = End} Stopped Nothing → ⊥
+stopped-apart z = let y : _≡_ {A = ℕ} 0 1 = cc in omega arith
+
+-- nor is Found
+found-apart : _≡_ {A = End} Found Nothing → ⊥
+found-apart z = let y : _≡_ {A = ℕ} 0 1 = cc in omega arith
+
+-- ---- one cell earlier
+module _ {b n c : ℕ} (lc : c < n) (t l : List ℕ) {t₁ l₁ : List ℕ} {s : State} {a : Answer} (shows : Shows b n (suc c) t₁ l₁ s a) {w : ℕ} (ew : nth t₁ c ≡ w)
+    (et : take c t₁ ≡ take c t) (el : length t₁ ≡ length t) (room : c < length t) (g : ℕ → Answer) where
+  -- the cells before
+  before-prefix : take c (s .table) ≡ take c t
+  before-prefix = sym (take-take c (suc c) (s .table) (omega arith)) ∙ ap (take c) (shows .prefix) ∙ take-take c (suc c) t₁ (omega arith) ∙ et
+
+  -- the cell itself
+  before-cell : nth (s .table) c ≡ w
+  before-cell = sym (getD-take (suc c) (s .table) c 0 (omega arith)) ∙ ap (λ x. nth x c) (shows .prefix) ∙ getD-take (suc c) t₁ c 0 (omega arith) ∙ ew
+
+  before-cells : take (n - c) (drop c (s .table)) ≡ w ∷ take (n - suc c) (drop (suc c) (s .table))
+  before-cells =
+      ap (λ k. take k (drop c (s .table))) more
+      ∙ ap (take (suc (n - suc c))) (drop-cons (s .table) c 0 (omega (arith, shows .long)))
+      ∙ ap (λ x. x ∷ take (n - suc c) (drop (suc c) (s .table))) before-cell
+    where
+      more : n - c ≡ suc (n - suc c)
+      more = omega arith
+
+  -- the walk has ended below this cell
+  below-ended : (s .end ≡ Nothing → ⊥) → Shows b n c t l s (bnext w a g)
+  unfolding toldAt
+  below-ended x = record {
+    answer = go (s .end) x (shows .answer);
+    prefix = before-prefix;
+    long = shows .long ∙ el;
+    most = shows .most;
+    again = λ z. absurd (x z);
+  }
+    where
+      go : (e : End) → (e ≡ Nothing → ⊥) → toldAt e n (suc c) (s .table) (s .tries) ≡ a → toldAt e n c (s .table) (s .tries) ≡ bnext w a g
+      go Found x h = ap (λ z. ended (found z (s .tries))) before-cells ∙ ap (λ z. bnext w z g) h
+      go Nothing x h = absurd (x refl)
+      go Stopped x h = ap (λ z. bnext w z g) h
+
+  -- the walk comes back from below this cell
+  below-none : s .end ≡ Nothing → bnext w a g ≡ g (s .tries)
+  unfolding toldAt
+  below-none z = ap (λ x. bnext w x g) (sym (shows .answer) ∙ ap (λ e. toldAt e n (suc c) (s .table) (s .tries)) z)
+
+-- ---- where the walk stands
+pub record Stands (P : Instance) (first slot core : ℕ) (t l : List ℕ) : Type 0 where
+  pub first-is : first ≡ slot * P .cores
+  pub slot-in : slot < P .slots
+  pub core-in : core < P .cores
+  pub lefts : Lefts P (first + core) (nth t) l
+  pub known : (d : ℕ) → d < first + core → nth t d ≤ P .tasks
+  pub long : cells P ≤ length t
+  pub wide : length l ≡ 32768
+
+-- after a value in cell c
+pub record After (P : Instance) (c : ℕ) (t l : List ℕ) : Type 0 where
+  pub lefts : Lefts P c (nth t) l
+  pub known : (d : ℕ) → d < c → nth t d ≤ P .tasks
+  pub long : cells P ≤ length t
+  pub wide : length l ≡ 32768
+
+-- the cells of a slot are the table's
+cell-in : {P : Instance} {first slot core : ℕ} {t l : List ℕ} → Stands P first slot core t l → first + core < cells P
+cell-in {P} {first} {slot} {core} s = omega (arith, s .first-is, mul-le-mul-right (P .cores) (s .slot-in))
+
+-- the values of a cell, each put behind the prefix p, with `rest` cells behind it
+abbrev pub oneValue : ℕ → Rule → List ℕ → ℕ → List ℕ → ℕ → ℕ → Answer
+oneValue b R vs rest p v = bgate (R .tried p v) (λ j. allow (leb (j + R .cost p v) b) b (j + R .cost p v) (bwalk b R vs rest (p ++ v ∷ [])))
+
+-- a value that is not tried
+one-skips : (P : Instance) (e b rest : ℕ) (p : List ℕ) (v u : ℕ) → ruleOf e P .tried p v ≡ false → oneValue b (ruleOf e P) (values P) rest p v u ≡ ended (none u)
+one-skips P e b rest p v u h = rw h
+
+-- one try more, if the limit allows it
+module _ (P : Instance) (e b rest : ℕ) (p : List ℕ) (v u : ℕ) (h : ruleOf e P .tried p v ≡ true) where
+  one-stops : u ≡ b → oneValue b (ruleOf e P) (values P) rest p v u ≡ stopped b
+  one-stops q = rw (h, cost-one P e p v, lt-leb (u + 1) b (omega arith))
+
+  one-goes : u ≢ b → u ≤ b → oneValue b (ruleOf e P) (values P) rest p v u ≡ bwalk b (ruleOf e P) (values P) rest (p ++ v ∷ []) (u + 1)
+  one-goes x l = rw (h, cost-one P e p v, le-leb (u + 1) b (omega arith))
+
+-- ---- the same earlier cells
+module _ (c : ℕ) (t t₀ : List ℕ) (et : take c t ≡ take c t₀) where
+  cell-same : (d : ℕ) → d < c → nth t d ≡ nth t₀ d
+  cell-same d l = sym (getD-take c t d 0 l) ∙ ap (λ x. nth x d) et ∙ getD-take c t₀ d 0 l
+
+  -- the work left is the same
+  lefts-same : (P : Instance) (l : List ℕ) → Lefts P c (nth t₀) l → Lefts P c (nth t) l
+  lefts-same P l h = record {
+    counters = λ i k x li lk. h .counters i k x li lk ∙ ap (λ d. P .work i - d) (done-same P c (nth t₀) (nth t) (λ d ld. sym (cell-same d ld)) i k);
+    none-closed = h .none-closed;
+  }
+
+  -- and so are the tasks that may stand there
+  permitted-same : (board l : List ℕ) (first slot core v : ℕ) → first + core ≡ c → permittedOn board t l first slot core v ≡ permittedOn board t₀ l first slot core v
+  unfolding permittedOn freeOn
+  permitted-same board l first slot core v e = ap (λ x. ltb 0 (rateOn board v core) && (leb (rateOn board v core) (nth l (counterOn board slot v)) && (x && true)))
+      (all-same core _ _ (λ j lj. ap (λ x. not (eqb x (v + 1))) (cell-same (first + j) (omega arith))))
+
+-- ---- the walk
+module _ {P : Instance} (small : Small P) (e b : ℕ) (board : List ℕ) (ready : Ready P e board) where
+  module _ {first slot core : ℕ} {t₀ l : List ℕ} (stands : Stands P first slot core t₀ l) (rest : ℕ) (next : Onward)
+      (onward : (t₁ l₁ : List ℕ) (u : ℕ) → After P (suc (first + core)) t₁ l₁ → u ≤ b
+      → Shows b (cells P) (suc (first + core)) t₁ l₁ (next t₁ l₁ u) (bwalk b (ruleOf e P) (values P) rest (take (suc (first + core)) t₁) u)) where
+    -- the cell is in the table
+    room : first + core < length t₀
+    room = omega (arith, cell-in stands, stands .long)
+
+    -- a value w in the cell: what is known after it
+    after : (t : List ℕ) → take (first + core) t ≡ take (first + core) t₀ → length t ≡ length t₀ → (w : ℕ) → w ≤ P .tasks → (l₁ : List ℕ) → length l₁ ≡ 32768
+        → Lefts P (first + core + 1) (nth (set t (first + core) w)) l₁ → After P (suc (first + core)) (set t (first + core) w) l₁
+    after t et el w lw l₁ wide lefts = record {
+      lefts = subst (λ c. Lefts P c (nth (set t (first + core) w)) l₁) (add-one (first + core)) lefts;
+      known = λ d ld. elim (ℕ-discrete d (first + core)) [
+        | yes q ↦ rw q (rw (getD-set-same t (first + core) w 0 (omega (arith, room, el))) lw)
+        | no x ↦ rw (getD-set-other t (first + core) d w 0 x, cell-same (first + core) t t₀ et d (omega arith)) (stands .known d (omega arith))
+      ];
+      long = rw (length-set t (first + core) w) (omega (arith, stands .long, el));
+      wide = wide;
+    }
+
+    -- what the walk below a value w tells
+    below : (t : List ℕ) → take (first + core) t ≡ take (first + core) t₀ → length t ≡ length t₀ → (w : ℕ) → w ≤ P .tasks → (l₁ : List ℕ) → length l₁ ≡ 32768
+        → Lefts P (first + core + 1) (nth (set t (first + core) w)) l₁ → (u : ℕ) → u ≤ b
+        → Shows b (cells P) (suc (first + core)) (set t (first + core) w) l₁ (next (set t (first + core) w) l₁ u)
+        (bwalk b (ruleOf e P) (values P) rest (take (first + core) t₀ ++ w ∷ []) u)
+    below t et el w lw l₁ wide lefts u lu =
+        subst (λ p. Shows b (cells P) (suc (first + core)) (set t (first + core) w) l₁ (next (set t (first + core) w) l₁ u) (bwalk b (ruleOf e P) (values P) rest p u))
+        (take-suc-set t (first + core) w (omega (arith, room, el)) ∙ ap (λ p. p ++ w ∷ []) et)
+        (onward (set t (first + core) w) l₁ u (after t et el w lw l₁ wide lefts) lu)
+
+    -- idle, after the last task
+    idle-shows : (t : List ℕ) (barred u : ℕ) → take (first + core) t ≡ take (first + core) t₀ → length t ≡ length t₀
+        → ruleOf e P .tried (take (first + core) t₀) 0 ≡ eqb barred 0 → u ≤ b
+        → Shows b (cells P) (first + core) t₀ l (idleLast board b first slot core next t l barred u)
+        (btryAll (oneValue b (ruleOf e P) (values P) rest (take (first + core) t₀)) (0 ∷ []) u)
+    unfolding idleLast toldAt
+    idle-shows t barred u et el h lu = elim (ℕ-discrete barred 0) [
+      | yes z ↦ elim (ℕ-discrete u b) [
+        | yes q ↦ shows-same {s = state Stopped t l u} (rw (eq-eqb barred 0 z, eq-eqb u b q)) (ap (λ a. bnext 0 a ends) (one-stops P e b rest (take (first + core) t₀) 0 u (h ∙ eq-eqb barred 0 z) q))
+            (record { answer = ap stopped q; prefix = et; long = el; most = lu; again = λ w. absurd (stopped-apart w) })
+        | no x ↦ shows-same {s = next (set t (first + core) 0) l (u + 1)} (rw (eq-eqb barred 0 z, ne-eqb u b x)) (ap (λ a. bnext 0 a ends) (one-goes P e b rest (take (first + core) t₀) 0 u (h ∙ eq-eqb barred 0 z) x lu))
+            (let r = next (set t (first + core) 0) l (u + 1) in
+            let s = below t et el 0 (omega arith) l (stands .wide) (lefts-idle small ready (stands .first-is) (stands .slot-in) (stands .core-in) t l (omega (arith, room, el)) (lefts-same (first + core) t t₀ et P l (stands .lefts))) (u + 1) (omega arith) in
+            end-cases (r .end)
+            (λ w. record {
+              answer = ap (λ y. toldAt y (cells P) (first + core) (r .table) (r .tries)) w
+                  ∙ sym (below-none (cell-in stands) t₀ l s (getD-set-same t (first + core) 0 0 (omega (arith, room, el))) (take-set-le (first + core) t (first + core) 0 (omega arith) ∙ et) (length-set t (first + core) 0 ∙ el) room ends w);
+              prefix = before-prefix (cell-in stands) t₀ l s (getD-set-same t (first + core) 0 0 (omega (arith, room, el))) (take-set-le (first + core) t (first + core) 0 (omega arith) ∙ et) (length-set t (first + core) 0 ∙ el) room ends;
+              long = s .long ∙ length-set t (first + core) 0 ∙ el;
+              most = s .most;
+              again = s .again;
+            })
+            (λ w. below-ended (cell-in stands) t₀ l s (getD-set-same t (first + core) 0 0 (omega (arith, room, el))) (take-set-le (first + core) t (first + core) 0 (omega arith) ∙ et) (length-set t (first + core) 0 ∙ el) room ends w))
+      ]
+      | no z ↦ shows-same {s = state Nothing t l u} (rw (ne-eqb barred 0 z)) (ap (λ a. bnext 0 a ends) (one-skips P e b rest (take (first + core) t₀) 0 u (h ∙ ne-eqb barred 0 z)))
+          (record { answer = refl; prefix = et; long = el; most = lu; again = λ w. refl })
+    ]
+      where
+        ends : ℕ → Answer
+        ends u = ended (none u)
+
+    -- how many of the tasks before v may stand there and bar idle
+    barring : ℕ → ℕ
+    barring v = sum v (λ w. gate (permittedOn board t₀ l first slot core w) (evenOn board w))
+
+    -- what is still to be tried of the cell's values, from v + 1 on, tells what is left of the rule's values
+    Tells : ℕ → ℕ → List ℕ → ℕ → ℕ → Type 0
+    Tells j v t barred u = Shows b (cells P) (first + core) t₀ l (tryFrom board b first slot core next j (floorOn board t₀ first core) t l v barred u)
+        (btryAll (oneValue b (ruleOf e P) (values P) rest (take (first + core) t₀)) (upTo j (suc v)) u)
+
+    -- one task
+    module _ (j v : ℕ) (lv : v < P .tasks) (t : List ℕ) (barred u : ℕ) (et : take (first + core) t ≡ take (first + core) t₀) (el : length t ≡ length t₀)
+        (hb : barred ≡ barring v) (lu : u ≤ b)
+        (ih : (t′ : List ℕ) (barred′ u′ : ℕ) → take (first + core) t′ ≡ take (first + core) t₀ → length t′ ≡ length t₀ → barred′ ≡ barring (suc v) → u′ ≤ b → Tells j (suc v) t′ barred′ u′) where
+      others : ℕ → Answer
+      others = btryAll (oneValue b (ruleOf e P) (values P) rest (take (first + core) t₀)) (upTo j (suc (suc v)))
+
+      -- whether it may stand there
+      may : permittedOn board t l first slot core v ≡ permittedOn board t₀ l first slot core v
+      may = permitted-same (first + core) t t₀ et board l first slot core v refl
+
+      -- whether it is tried
+      is-tried : ruleOf e P .tried (take (first + core) t₀) (suc v) ≡ permittedOn board t₀ l first slot core v && leb (floorOn board t₀ first core) (v + 1)
+      is-tried = task-tried small board (stands .first-is) (stands .slot-in) (stands .core-in) t₀ l (omega (arith, room)) (stands .lefts) e ready v lv
+
+      -- it may not stand there
+      not-there : permittedOn board t₀ l first slot core v ≡ false → Tells (suc j) v t barred u
+      unfolding Tells barring sum gate others
+      not-there p = shows-same {s = tryFrom board b first slot core next j (floorOn board t₀ first core) t l (suc v) barred u}
+          (skip board b first slot core next j (floorOn board t₀ first core) t l v barred u (may ∙ p)
+          ∙ ap (λ x. tryFrom board b first slot core next j (floorOn board t₀ first core) t l x barred u) (add-one v))
+          (ap (λ a. bnext (suc v) a others) (one-skips P e b rest (take (first + core) t₀) (suc v) u (is-tried ∙ ap (λ x. x && leb (floorOn board t₀ first core) (v + 1)) p)))
+          (ih t barred u et el (hb ∙ sym (rw p (add-zero _))) lu)
+
+      module _ (p : permittedOn board t₀ l first slot core v ≡ true) where
+        -- one more that may bar idle
+        one-more : barred + evenOn board v ≡ barring (suc v)
+        unfolding barring sum gate
+        one-more = rw p (ap (λ x. x + evenOn board v) hb)
+
+        -- rule B bars it
+        by-B : leb (floorOn board t₀ first core) (v + 1) ≡ false → Tells (suc j) v t barred u
+        unfolding Tells others
+        by-B q = shows-same {s = tryFrom board b first slot core next j (floorOn board t₀ first core) t l (suc v) (barred + evenOn board v) u}
+            (barred-by-B board b first slot core next j (floorOn board t₀ first core) t l v barred u (may ∙ p) (leb-false _ _ q)
+            ∙ ap (λ x. tryFrom board b first slot core next j (floorOn board t₀ first core) t l x (barred + evenOn board v) u) (add-one v))
+            (ap (λ a. bnext (suc v) a others) (one-skips P e b rest (take (first + core) t₀) (suc v) u (is-tried ∙ rw (p, q))))
+            (ih t (barred + evenOn board v) u et el one-more lu)
+
+        module _ (q : leb (floorOn board t₀ first core) (v + 1) ≡ true) where
+          yes-tried : ruleOf e P .tried (take (first + core) t₀) (suc v) ≡ true
+          yes-tried = is-tried ∙ rw (p, q)
+
+          -- the limit does not allow it
+          out : u ≡ b → Tells (suc j) v t barred u
+          unfolding Tells others toldAt
+          out z = shows-same {s = state Stopped t l u}
+              (stop board b first slot core next j (floorOn board t₀ first core) t l v barred u (may ∙ p) (leb-true _ _ q) z)
+              (ap (λ a. bnext (suc v) a others) (one-stops P e b rest (take (first + core) t₀) (suc v) u yes-tried z))
+              (record { answer = ap stopped z; prefix = et; long = el; most = lu; again = λ w. absurd (stopped-apart w) })
+
+          -- it is put into the cell
+          module _ (z : u ≢ b) where
+            l₁ : List ℕ
+            l₁ = set l (counterOn board slot v) (nth l (counterOn board slot v) - rateOn board v core)
+
+            r : State
+            r = next (set t (first + core) (v + 1)) l₁ (u + 1)
+
+            -- what the walk below it tells
+            tells-below : Shows b (cells P) (suc (first + core)) (set t (first + core) (v + 1)) l₁ r
+                (bwalk b (ruleOf e P) (values P) rest (take (first + core) t₀ ++ (v + 1) ∷ []) (u + 1))
+            unfolding l₁ r
+            tells-below = below t et el (v + 1) (omega arith) l₁ (length-set l _ _ ∙ stands .wide)
+                (lefts-put small ready (stands .first-is) (stands .slot-in) (stands .core-in) t l (omega (arith, room, el)) (stands .wide) lefts v lv
+                (permitted-tells small ready (stands .first-is) (stands .slot-in) (stands .core-in) t l lefts v lv (rw (may ∙ p) tt) .0))
+                (u + 1) (omega arith)
+              where
+                lefts : Lefts P (first + core) (nth t) l
+                lefts = lefts-same (first + core) t t₀ et P l (stands .lefts)
+
+            -- the counter is given back what it was
+            given-back : r .end ≡ Nothing → set (r .left) (counterOn board slot v) (nth l (counterOn board slot v)) ≡ l
+            unfolding l₁
+            given-back w = ap (λ x. set x (counterOn board slot v) (nth l (counterOn board slot v))) (tells-below .again w)
+                ∙ set-set l (counterOn board slot v) _ _ ∙ set-getD l (counterOn board slot v) 0
+
+            -- the walk below it is what the rule's value gives
+            value-is : oneValue b (ruleOf e P) (values P) rest (take (first + core) t₀) (suc v) u
+                ≡ bwalk b (ruleOf e P) (values P) rest (take (first + core) t₀ ++ (v + 1) ∷ []) (u + 1)
+            value-is = one-goes P e b rest (take (first + core) t₀) (suc v) u yes-tried z lu
+                ∙ ap (λ w. bwalk b (ruleOf e P) (values P) rest (take (first + core) t₀ ++ w ∷ []) (u + 1)) (sym (add-one v))
+
+            cell-is : nth (set t (first + core) (v + 1)) (first + core) ≡ suc v
+            cell-is = getD-set-same t (first + core) (v + 1) 0 (omega (arith, room, el)) ∙ add-one v
+
+            prefix-is : take (first + core) (set t (first + core) (v + 1)) ≡ take (first + core) t₀
+            prefix-is = take-set-le (first + core) t (first + core) (v + 1) (omega arith) ∙ et
+
+            long-is : length (set t (first + core) (v + 1)) ≡ length t₀
+            long-is = length-set t (first + core) (v + 1) ∙ el
+
+            in-cell : Tells (suc j) v t barred u
+            unfolding Tells others l₁ r placed
+            in-cell = end-cases (r .end)
+                (λ w. shows-same {s = tryFrom board b first slot core next j (floorOn board t₀ first core) (r .table) l (suc v) (barred + evenOn board v) (r .tries)}
+                (back board b first slot core next j (floorOn board t₀ first core) t l v barred u (may ∙ p) (leb-true _ _ q) z r refl w
+                ∙ (λ i. tryFrom board b first slot core next j (floorOn board t₀ first core) (r .table) (given-back w i) (add-one v i) (barred + evenOn board v) (r .tries)))
+                (ap (λ a. bnext (suc v) a others) value-is ∙ below-none (cell-in stands) t₀ l tells-below cell-is prefix-is long-is room others w)
+                (ih (r .table) (barred + evenOn board v) (r .tries) (before-prefix (cell-in stands) t₀ l tells-below cell-is prefix-is long-is room others)
+                (tells-below .long ∙ long-is) one-more (tells-below .most)))
+                (λ w. shows-same {s = r}
+                (tried board b first slot core next j (floorOn board t₀ first core) t l v barred u (may ∙ p) (leb-true _ _ q) z r refl ∙ or-else-stays (r .end) r _ w)
+                (ap (λ a. bnext (suc v) a others) value-is)
+                (below-ended (cell-in stands) t₀ l tells-below cell-is prefix-is long-is room others w))
+
+          one-tried : Tells (suc j) v t barred u
+          one-tried = elim (ℕ-discrete u b) [ yes z ↦ out z | no x ↦ in-cell x ]
+
+      one-task : Tells (suc j) v t barred u
+      one-task = go (permittedOn board t₀ l first slot core v) refl (leb (floorOn board t₀ first core) (v + 1)) refl
+        where
+          go : (p : Bool) → permittedOn board t₀ l first slot core v ≡ p → (q : Bool) → leb (floorOn board t₀ first core) (v + 1) ≡ q → Tells (suc j) v t barred u
+          go false p q h = not-there p
+          go true p false h = by-B p h
+          go true p true h = one-tried p h
+
+    -- all values
+    values-tell : (j v : ℕ) (t : List ℕ) (barred u : ℕ) → v + j ≡ P .tasks → take (first + core) t ≡ take (first + core) t₀ → length t ≡ length t₀
+        → barred ≡ barring v → u ≤ b → Tells j v t barred u
+    unfolding Tells tryFrom barring
+    values-tell zero v t barred u ev et el hb lu = idle-shows t barred u et el
+        (idle-tried small board (stands .first-is) (stands .slot-in) (stands .core-in) t₀ l (omega (arith, room)) (stands .lefts) e ready (stands .known)
+        ∙ ap (λ x. eqb x 0) (ap (λ n. sum n (λ w. gate (permittedOn board t₀ l first slot core w) (evenOn board w))) (ready .tasks ∙ omega arith) ∙ sym hb)) lu
+    values-tell (suc j) v t barred u ev et el hb lu = one-task j v (omega arith) t barred u et el hb lu (λ t′ barred′ u′. values-tell j (suc v) t′ barred′ u′ (omega arith))
+
+    -- the whole cell
+    cell-tells : (u : ℕ) → u ≤ b → Tells (P .tasks) 0 t₀ 0 u
+    unfolding barring sum
+    cell-tells u lu = values-tell (P .tasks) 0 t₀ 0 u (omega arith) refl refl refl lu
+
+  -- ---- from cell to cell
+  -- the walk under the limit behind a test that passes or fails
+  bwalk-in : (k : ℕ) (p : List ℕ) (u : ℕ) → ruleOf e P .closes p ≡ true
+      → bwalk b (ruleOf e P) (values P) (suc k) p u ≡ btryAll (oneValue b (ruleOf e P) (values P) k p) (values P) u
+  unfolding bwalk
+  bwalk-in k p u h = rw h
+
+  bwalk-end : (p : List ℕ) (u : ℕ) → ruleOf e P .closes p ≡ true → bwalk b (ruleOf e P) (values P) 0 p u ≡ ended (found [] u)
+  unfolding bwalk
+  bwalk-end p u h = rw h
+
+  bwalk-shut : (k : ℕ) (p : List ℕ) (u : ℕ) → ruleOf e P .closes p ≡ false → bwalk b (ruleOf e P) (values P) k p u ≡ ended (none u)
+  unfolding bwalk
+  bwalk-shut zero p u h = rw h
+  bwalk-shut (suc k) p u h = rw h
+
+  -- from a cell with k cells left, this one among them, the arrays' walk tells what the rule's values do
+  Goes : ℕ → Type 0
+  Goes k = (first slot core : ℕ) (t l : List ℕ) → Stands P first slot core t l → (u : ℕ) → u ≤ b → k + (first + core) ≡ cells P
+      → Shows b (cells P) (first + core) t l (walkOn k board b first slot core t l u) (btryAll (oneValue b (ruleOf e P) (values P) (pred k) (take (first + core) t)) (values P) u)
+
+  module _ (rest : ℕ) (goes : Goes rest) {first slot core : ℕ} (ef : first ≡ slot * P .cores) (ls : slot < P .slots) (lc : core < P .cores)
+      (er : rest + suc (first + core) ≡ cells P) (t l : List ℕ) (after : After P (suc (first + core)) t l) (u : ℕ) (lu : u ≤ b) where
+    -- what closes the cell is told by the rule
+    closes-at : ruleOf e P .closes (take (suc (first + core)) t) ≡ closed P (suc (first + core)) (nth t)
+    closes-at = closes-prefix P e (suc (first + core)) t (omega (arith, after .long))
+
+    -- the next cell, of core `core′` in the slot that begins at `first′`, is cell c
+    next-cell : (c first′ slot′ core′ : ℕ) → c ≡ first′ + core′ → c ≡ suc (first + core) → first′ ≡ slot′ * P .cores → slot′ < P .slots → core′ < P .cores → c < cells P
+        → ruleOf e P .closes (take (suc (first + core)) t) ≡ true
+        → Shows b (cells P) (suc (first + core)) t l (walkOn rest board b first′ slot′ core′ t l u) (bwalk b (ruleOf e P) (values P) rest (take (suc (first + core)) t) u)
+    unfolding Goes
+    next-cell c first′ slot′ core′ ec es ef′ ls′ lc′ lt h = go rest goes er
+      where
+        stands : Stands P first′ slot′ core′ t l
+        stands = record {
+          first-is = ef′;
+          slot-in = ls′;
+          core-in = lc′;
+          lefts = subst (λ x. Lefts P x (nth t) l) (sym es ∙ ec) (after .lefts);
+          known = λ d ld. after .known d (omega arith);
+          long = after .long;
+          wide = after .wide;
+        }
+
+        go : (k : ℕ) → Goes k → k + suc (first + core) ≡ cells P
+            → Shows b (cells P) (suc (first + core)) t l (walkOn k board b first′ slot′ core′ t l u) (bwalk b (ruleOf e P) (values P) k (take (suc (first + core)) t) u)
+        go zero g ek = absurd (omega arith)
+        go (suc k) g ek = shows-same refl (bwalk-in k (take (suc (first + core)) t) u h)
+            (subst (λ x. Shows b (cells P) x t l (walkOn (suc k) board b first′ slot′ core′ t l u) (btryAll (oneValue b (ruleOf e P) (values P) k (take x t)) (values P) u))
+            (sym ec ∙ es) (g first′ slot′ core′ t l stands u lu (omega arith)))
+
+    -- one more core in the slot
+    next-core : core + 1 < P .cores → Shows b (cells P) (suc (first + core)) t l (closeThen board (walkOn rest board b) first slot (core + 1) t l u)
+        (bwalk b (ruleOf e P) (values P) rest (take (suc (first + core)) t) u)
+    unfolding closeThen
+    next-core h = shows-same {s = walkOn rest board b first slot (core + 1) t l u} (rw (lt-ltb (core + 1) (coresOn board) (rw (ready .cores) h))) refl
+        (next-cell (first + (core + 1)) first slot (core + 1) refl (omega arith) ef ls h (omega (arith, ef, mul-le-mul-right (P .cores) ls))
+        (closes-at ∙ ap (λ c. closed P c (nth t)) (omega arith) ∙ closed-within small ready slot (core + 1) (omega arith) h (nth t)))
+
+    -- the slot is at its end
+    module _ (h : P .cores ≤ core + 1) where
+      slot-ends : closesOn board l slot ≡ ruleOf e P .closes (take (suc (first + core)) t)
+      slot-ends = closes-is small ready ls (suc (first + core)) (nth t) l (after .lefts) (omega (arith, ef)) ∙ sym closes-at
+
+      starved-slot : closesOn board l slot ≡ false → Shows b (cells P) (suc (first + core)) t l (closeThen board (walkOn rest board b) first slot (core + 1) t l u)
+          (bwalk b (ruleOf e P) (values P) rest (take (suc (first + core)) t) u)
+      unfolding closeThen toldAt
+      starved-slot z = shows-same {s = state Nothing t l u} (rw (le-ltb (core + 1) (coresOn board) (rw (ready .cores) h), z))
+          (bwalk-shut rest (take (suc (first + core)) t) u (sym slot-ends ∙ z))
+          (record { answer = refl; prefix = refl; long = refl; most = lu; again = λ _. refl })
+
+      closed-slot : closesOn board l slot ≡ true → Shows b (cells P) (suc (first + core)) t l (closeThen board (walkOn rest board b) first slot (core + 1) t l u)
+          (bwalk b (ruleOf e P) (values P) rest (take (suc (first + core)) t) u)
+      unfolding closeThen toldAt
+      closed-slot z = ⊎-elim
+          (λ more. shows-same {s = walkOn rest board b (first + (core + 1)) (slot + 1) 0 t l u}
+          (rw (le-ltb (core + 1) (coresOn board) (rw (ready .cores) h), z, lt-ltb (slot + 1) (slotsOn board) (rw (ready .slots) more))) refl
+          (next-cell (first + (core + 1)) (first + (core + 1)) (slot + 1) 0 (omega arith) (omega arith) (omega (arith, ef)) more (omega arith)
+          (omega (arith, ef, mul-le-mul-right (P .cores) more)) (sym slot-ends ∙ z)))
+          (λ none. let last : rest ≡ 0 = omega (arith, ef, mul-le-mul-right (P .cores) none) in
+          let over : cells P - suc (first + core) ≡ 0 = omega arith in
+          shows-same {s = state Found t l u}
+          (rw (le-ltb (core + 1) (coresOn board) (rw (ready .cores) h), z, le-ltb (slot + 1) (slotsOn board) (rw (ready .slots) none)))
+          (ap (λ k. bwalk b (ruleOf e P) (values P) k (take (suc (first + core)) t) u) last ∙ bwalk-end (take (suc (first + core)) t) u (sym slot-ends ∙ z))
+          (record {
+            answer = ap (λ k. ended (found (take k (drop (suc (first + core)) t)) u)) over;
+            prefix = refl;
+            long = refl;
+            most = lu;
+            again = λ w. absurd (found-apart w);
+          }))
+          (lt-or-ge (slot + 1) (P .slots))
+
+    -- after a cell
+    closes-tell : Shows b (cells P) (suc (first + core)) t l (closeThen board (walkOn rest board b) first slot (core + 1) t l u)
+        (bwalk b (ruleOf e P) (values P) rest (take (suc (first + core)) t) u)
+    closes-tell = ⊎-elim next-core (λ h. go h (closesOn board l slot) refl) (lt-or-ge (core + 1) (P .cores))
+      where
+        go : P .cores ≤ core + 1 → (x : Bool) → closesOn board l slot ≡ x → Shows b (cells P) (suc (first + core)) t l (closeThen board (walkOn rest board b) first slot (core + 1) t l u)
+            (bwalk b (ruleOf e P) (values P) rest (take (suc (first + core)) t) u)
+        go h false z = starved-slot h z
+        go h true z = closed-slot h z
+
+  -- the walk from any cell
+  walk-goes : (k : ℕ) → Goes k
+  unfolding Goes walkOn Tells
+  walk-goes zero first slot core t l stands u lu ek = absurd (omega (arith, cell-in stands))
+  walk-goes (suc rest) first slot core t l stands u lu ek =
+      shows-same {s = tryFrom board b first slot core (closeThen board (walkOn rest board b) first slot (core + 1)) (P .tasks) (floorOn board t first core) t l 0 0 u}
+      (ap (λ n. tryFrom board b first slot core (closeThen board (walkOn rest board b) first slot (core + 1)) n (floorOn board t first core) t l 0 0 u) (ready .tasks)) refl
+      (cell-tells stands rest (closeThen board (walkOn rest board b) first slot (core + 1))
+      (λ t₁ l₁ u₁ after lu₁. closes-tell rest (walk-goes rest) (stands .first-is) (stands .slot-in) (stands .core-in) (omega arith) t₁ l₁ after u₁ lu₁) u lu)
