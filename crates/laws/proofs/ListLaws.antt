@@ -1,12 +1,16 @@
 -- Laws of lists made from a rule, and of the first place at which a rule gives a number that is not 0.
 -- Assumes nothing.
-use Prim.Native.Nat.{ℕ, zero, suc, _+_, _≤_, _<_}
+use Prim.Native.Nat.{ℕ, zero, suc, _+_, _-_, _≤_, _<_}
 use native.Mathlib.Omega.{arith}
 use native.Mathlib.Decide.{ℕ-discrete}
 use mathlib.Core.Path.{_≡_, refl, sym, ap, _∙_}
 use mathlib.Core.Logic.{_≢_, ⊎-elim}
-use lib.ListN.{length, getD}
-use Rattle.laws.specs.Lists.{tab, orLater, seek, firstOf}
+use mathlib.Core.List.{List, _++_}
+use native.Mathlib.Numerals.{add-one}
+use native.Mathlib.Nat.{zero-add}
+use lib.ListN.{length, drop, getD, set, length-set, length-append, length-drop, List·getD-append}
+use lib.Seq.{getD-set-same, getD-set-other, getD-append-add, getD-drop, ext-getD}
+use Rattle.laws.specs.Lists.{nth, tab, over, orLater, seek, firstOf, filled}
 use Rattle.laws.proofs.SumLaws.{gate-lt, gate-ge, lt-or-ge}
 
 module _ {A : Type 0} where
@@ -78,3 +82,54 @@ first-same n g h e = ⊎-elim
     (λ l. rw (seek-same n g h e, e (seek n h) l))
     (λ l. gate-ge (seek n g) n _ (rw (seek-same n g h e) l) ∙ sym (gate-ge (seek n h) n _ l))
     (lt-or-ge (seek n h) n)
+
+-- ---- places stored one after the other
+-- as many as before
+pub filled-length : (s : List ℕ) (a n : ℕ) (g : ℕ → ℕ) → length (filled s a n g) ≡ length s
+unfolding filled
+filled-length s a zero g = refl
+filled-length s a (suc n) g = length-set (filled s a n g) (a + n) (g n) ∙ filled-length s a n g
+
+-- what was stored
+pub filled-at : (s : List ℕ) (a n : ℕ) (g : ℕ → ℕ) (k : ℕ) → k < n → a + n ≤ length s → nth (filled s a n g) (a + k) ≡ g k
+unfolding filled
+filled-at s a zero g k l room = absurd (omega arith)
+filled-at s a (suc n) g k l room = elim (ℕ-discrete k n) [
+  | yes e ↦ rw e (getD-set-same (filled s a n g) (a + n) (g n) 0 (omega (arith, filled-length s a n g)))
+  | no x ↦ getD-set-other (filled s a n g) (a + n) (a + k) (g n) 0 (omega arith) ∙ filled-at s a n g k (omega arith) (omega arith)
+]
+
+-- what stands elsewhere
+pub filled-before : (s : List ℕ) (a n : ℕ) (g : ℕ → ℕ) (k : ℕ) → k < a → nth (filled s a n g) k ≡ nth s k
+unfolding filled
+filled-before s a zero g k l = refl
+filled-before s a (suc n) g k l = getD-set-other (filled s a n g) (a + n) k (g n) 0 (omega arith) ∙ filled-before s a n g k l
+
+pub filled-behind : (s : List ℕ) (a n : ℕ) (g : ℕ → ℕ) (k : ℕ) → a + n ≤ k → nth (filled s a n g) k ≡ nth s k
+unfolding filled
+filled-behind s a zero g k l = refl
+filled-behind s a (suc n) g k l = getD-set-other (filled s a n g) (a + n) k (g n) 0 (omega arith) ∙ filled-behind s a n g k (omega arith)
+
+-- none yet, and one more
+pub filled-none : (s : List ℕ) (a : ℕ) (g : ℕ → ℕ) → s ≡ filled s a 0 g
+unfolding filled
+filled-none s a g = refl
+
+pub filled-next : (s : List ℕ) (a n : ℕ) (g : ℕ → ℕ) (r : List ℕ) (x : ℕ) → r ≡ filled s a n g → x ≡ g n → set r (a + n) x ≡ filled s a (n + 1) g
+unfolding filled
+filled-next s a n g r x er ex = rw add-one (λ i. set (er i) (a + n) (ex i))
+
+-- a list stored from the start on is written over it
+pub filled-over : (n : ℕ) (s : List ℕ) (g : ℕ → ℕ) → n ≤ length s → filled s 0 n g ≡ over (tab n g) s
+unfolding over
+filled-over n s g room = ext-getD 0 _ _ (filled-length s 0 n g ∙ sym size) (λ i l. ⊎-elim (inside i) (outside i (rw (filled-length s 0 n g) at l)) (lt-or-ge i n))
+  where
+    size : length (tab n g ++ drop (length (tab n g)) s) ≡ length s
+    size = rw (tab-length n g, length-append, length-drop, tab-length n g) (omega arith)
+
+    inside : (i : ℕ) → i < n → nth (filled s 0 n g) i ≡ nth (tab n g ++ drop (length (tab n g)) s) i
+    inside i l = ap (nth (filled s 0 n g)) (sym (zero-add i)) ∙ filled-at s 0 n g i l (omega arith) ∙ sym (tab-at n g i 0 l) ∙ sym (List·getD-append (tab n g) (drop (length (tab n g)) s) 0 i (rw (tab-length n g) l))
+
+    outside : (i : ℕ) → i < length s → n ≤ i → nth (filled s 0 n g) i ≡ nth (tab n g ++ drop (length (tab n g)) s) i
+    outside i li l = filled-behind s 0 n g i (omega arith) ∙ sym (rw (tab-length n g)
+        (ap (nth (tab n g ++ drop n s)) (omega (arith, tab-length n g)) ∙ getD-append-add (tab n g) (drop n s) (i - n) 0 ∙ getD-drop n s (i - n) 0 ∙ ap (nth s) (omega arith)))

@@ -1,9 +1,9 @@
 -- Lists of numbers by their places, lists made from a rule, and the first place at which a rule gives a number that is not 0.
 -- Assumes nothing.
-use Prim.Native.Nat.{ℕ, zero, suc}
+use Prim.Native.Nat.{ℕ, zero, suc, _+_}
 use mathlib.Core.List.{List, [], _∷_, _++_}
 use lib.Dec.{ltb}
-use lib.ListN.{length, drop, getD}
+use lib.ListN.{length, drop, getD, set}
 use Rattle.laws.specs.Sum.{gate}
 
 -- the number at place k of a list, from 0; 0 behind its end
@@ -32,3 +32,8 @@ seek (suc n) g = orLater (g 0) (suc (seek n (λ k. g (suc k))))
 -- the first of g 0, g 1, .., g (n - 1) that is not 0, or 0
 abbrev pub firstOf : ℕ → (ℕ → ℕ) → ℕ
 firstOf n g = gate (ltb (seek n g) n) (g (seek n g))
+
+-- s with g 0, g 1, .., g (n - 1) stored from place a on
+unfoldable pub filled : List ℕ → ℕ → ℕ → (ℕ → ℕ) → List ℕ
+filled s a zero g = s
+filled s a (suc n) g = set (filled s a n g) (a + n) (g n)
