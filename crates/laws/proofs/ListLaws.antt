@@ -5,11 +5,11 @@ use native.Mathlib.Omega.{arith}
 use native.Mathlib.Decide.{ℕ-discrete}
 use mathlib.Core.Path.{_≡_, refl, sym, ap, _∙_}
 use mathlib.Core.Logic.{_≢_, ⊎-elim}
-use mathlib.Core.List.{List, _++_}
+use mathlib.Core.List.{List, _∷_, _++_}
 use native.Mathlib.Numerals.{add-one}
 use native.Mathlib.Nat.{zero-add}
-use lib.ListN.{length, drop, getD, set, length-set, length-append, length-drop, List·getD-append}
-use lib.Seq.{getD-set-same, getD-set-other, getD-append-add, getD-drop, ext-getD}
+use lib.ListN.{length, take, drop, getD, set, replicate, length-set, length-append, length-drop, List·getD-append}
+use lib.Seq.{getD-set-same, getD-set-other, getD-append-add, getD-drop, getD-take, length-take-le, ext-getD}
 use Rattle.laws.specs.Lists.{nth, tab, over, orLater, seek, firstOf, filled}
 use Rattle.laws.proofs.SumLaws.{gate-lt, gate-ge, lt-or-ge}
 
@@ -133,3 +133,14 @@ filled-over n s g room = ext-getD 0 _ _ (filled-length s 0 n g ∙ sym size) (λ
     outside : (i : ℕ) → i < length s → n ≤ i → nth (filled s 0 n g) i ≡ nth (tab n g ++ drop (length (tab n g)) s) i
     outside i li l = filled-behind s 0 n g i (omega arith) ∙ sym (rw (tab-length n g)
         (ap (nth (tab n g ++ drop n s)) (omega (arith, tab-length n g)) ∙ getD-append-add (tab n g) (drop n s) (i - n) 0 ∙ getD-drop n s (i - n) 0 ∙ ap (nth s) (omega arith)))
+
+-- the first n places of a list
+pub tab-take : (n : ℕ) (s : List ℕ) → n ≤ length s → tab n (nth s) ≡ take n s
+tab-take n s room = ext-getD 0 _ _ (tab-length n (nth s) ∙ sym (length-take-le n s room))
+    (λ i l. let k : i < n = rw (tab-length n (nth s)) at l in tab-at n (nth s) i 0 k ∙ sym (getD-take n s i 0 k))
+
+-- n times the same
+pub tab-replicate : (n x : ℕ) → tab n (λ _. x) ≡ replicate n x
+unfolding tab
+tab-replicate zero x = refl
+tab-replicate (suc n) x = ap (λ s. x ∷ s) (tab-replicate n x)

@@ -111,6 +111,17 @@ highest-ge (suc n) g s l t = go (g n) (λ e. rw (← e) t) (λ m. highest-ge n g
     go true h k = omega arith
     go false h k = elim (ℕ-discrete s n) [ yes e ↦ absurd (h e) | no x ↦ k (omega arith) ]
 
+-- where one passes, the highest does
+pub highest-passes : (n : ℕ) (g : ℕ → Bool) (s : ℕ) → s < n → Passes (g s) → Passes (g (highest n g))
+unfolding highest
+highest-passes zero g s l t = absurd (omega arith)
+highest-passes (suc n) g s l t = go (g n) refl (λ m. highest-passes n g s m t)
+  where
+    go : (b : Bool) → g n ≡ b → (s < n → Passes (g (highest n g))) → Passes (g (cond b n (highest n g)))
+    go true e k = rw e tt
+    go false e k = elim (ℕ-discrete s n) [ yes q ↦ absurd (rw (ap g q ∙ e) at t) | no x ↦ k (omega arith) ]
+
+
 -- a number that passes, and above which none does, is the highest
 pub highest-is : (n : ℕ) (g : ℕ → Bool) (s : ℕ) → s < n → Passes (g s) → ((t : ℕ) → s < t → t < n → Passes (g t) → ⊥) → highest n g ≡ s
 unfolding highest

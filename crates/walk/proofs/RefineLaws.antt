@@ -4,7 +4,7 @@ use Prim.Native.Nat.{ℕ, zero, suc, _+_, _*_, _-_, _≤_, _<_, pred}
 use native.Mathlib.Omega.{arith}
 use native.Mathlib.Numerals.{add-one}
 use native.Mathlib.Decide.{ℕ-discrete}
-use native.Mathlib.Nat.{add-zero, add-assoc, mul-le-mul-right}
+use native.Mathlib.Nat.{add-zero, mul-le-mul-right, mul-pos}
 use mathlib.Core.Path.{_≡_, refl, sym, ap, subst, subst₂, _∙_}
 use mathlib.Core.Logic.{_≢_, ⊎-elim}
 use mathlib.Core.Bool.{Bool, true, false, not, _&&_}
@@ -16,15 +16,16 @@ use lib.Seq.{drop-cons, take-take, take-suc-set, getD-take, getD-set-same, getD-
 use Rattle.laws.specs.Sum.{gate, sum}
 use Rattle.laws.specs.Lists.{nth}
 use Rattle.laws.specs.Order.{upTo}
-use Rattle.tasks.specs.Instance.{Instance}
+use Rattle.tasks.specs.Instance.{Instance, jobEnd}
 use Rattle.laws.proofs.SumLaws.{lt-or-ge}
-use Rattle.laws.proofs.TestLaws.{all-same}
+use Rattle.laws.proofs.TestLaws.{all-same, all-true}
 use Rattle.table.specs.Table.{cells}
 use Rattle.table.proofs.TableLaws.{done-same}
-use Rattle.rules.specs.Walk.{Rule, found, none, Answer, ended, stopped}
+use Rattle.rules.specs.Walk.{Rule, found, none, Answer, ended, stopped, limited}
 use Rattle.rules.specs.Limit.{allow, bgate, bnext, btryAll, bwalk}
-use Rattle.rules.specs.Rules.{values, permitted, closed}
-use Rattle.rules.specs.Search.{ruleOf}
+use Rattle.rules.specs.Rules.{values, settled, closed}
+use Rattle.rules.specs.Search.{ruleOf, walked}
+use Rattle.rules.proofs.Limit.{bwalk-limited}
 use Rattle.walk.specs.declared.End.{End}
 use Rattle.walk.specs.declared.End.the-variants.{Found, Nothing, Stopped}
 use Rattle.walk.specs.Machine.{State, state, Onward, orElse, counterOn, rateOn, evenOn, tasksOn, coresOn, slotsOn, freeOn, permittedOn, floorOn, closesOn, idleLast, placed, tryFrom, closeThen, walkOn}
@@ -34,7 +35,7 @@ use Rattle.walk.proofs.ReadyLaws.{closes-is, closed-within, permitted-t
 use Rattle.walk.proofs.ObeyLaws.{cost-one, closes-prefix, task-tried, idle-tried}
 
 -- what an end tells from cell c on, of n cells
-pub toldAt : End → ℕ → ℕ → List ℕ → ℕ → Answer
+unfoldable pub toldAt : End → ℕ → ℕ → List ℕ → ℕ → Answer
 toldAt Found n c t u = ended (found (take (n - c) (drop c t)) u)
 toldAt Nothing n c t u = ended (none u)
 toldAt Stopped n c t u = stopped u
@@ -483,3 +484,33 @@ module _ {P : Instance} (small : Small P) (e b : ℕ) (board : List ℕ) (ready 
       (ap (λ n. tryFrom board b first slot core (closeThen board (walkOn rest board b) first slot (core + 1)) n (floorOn board t first core) t l 0 0 u) (ready .tasks)) refl
       (cell-tells stands rest (closeThen board (walkOn rest board b) first slot (core + 1))
       (λ t₁ l₁ u₁ after lu₁. closes-tell rest (walk-goes rest) (stands .first-is) (stands .slot-in) (stands .core-in) (omega arith) t₁ l₁ after u₁ lu₁) u lu)
+
+  -- before the first cell no job ends
+  closed-start : (f : ℕ → ℕ) → closed P 0 f ≡ true
+  unfolding closed settled
+  closed-start f = all-true (P .tasks) _ (λ i li. all-true (P .jobs (suc i)) _ (λ k lk.
+      rw (ne-eqb (suc (jobEnd P (suc i) k) * P .cores) 0 (λ z. omega (arith, mul-pos {m = suc (jobEnd P (suc i) k)} {n = P .cores} (omega arith) (small .regular .some-core))))))
+
+  -- the walk over the whole table is the engine's under the limit
+  pub walk-limited : (t l : List ℕ) → Lefts P 0 (nth t) l → cells P ≤ length t → length l ≡ 32768
+      → Shows b (cells P) 0 t l (walkOn (cells P) board b 0 0 0 t l 0) (limited b (walked e P))
+  unfolding Goes
+  walk-limited t l lefts long wide = shows-same refl (sym (bwalk-limited b (ruleOf e P) (values P) (cells P) [])) (go (cells P) (omega arith) some)
+    where
+      some : 0 < cells P
+      some = mul-pos (small .regular .some-slot) (small .regular .some-core)
+
+      stands : Stands P 0 0 0 t l
+      stands = record {
+        first-is = omega arith;
+        slot-in = small .regular .some-slot;
+        core-in = small .regular .some-core;
+        lefts = lefts;
+        known = λ d ld. absurd (omega arith);
+        long = long;
+        wide = wide;
+      }
+
+      go : (k : ℕ) → k + (0 + 0) ≡ cells P → 0 < k → Shows b (cells P) 0 t l (walkOn k board b 0 0 0 t l 0) (bwalk b (ruleOf e P) (values P) k [] 0)
+      go zero ek pos = absurd (omega arith)
+      go (suc k) ek pos = shows-same refl (bwalk-in k [] 0 (closes-prefix P e 0 t (omega arith) ∙ closed-start (nth t))) (walk-goes (suc k) 0 0 0 t l stands 0 (omega arith) ek)

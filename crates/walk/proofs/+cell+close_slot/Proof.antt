@@ -1,3 +1,5 @@
+-- `walk::cell` and `walk::close_slot` meet their contracts, by one proof: each need is a law of the turn that it belongs to.
+-- The cells left fall: twice their number for `cell`, one more for `close_slot`. Assumes nothing.
 use borrow.Author.Needs.{needs}
 use native.Mathlib.Omega.{arith}
 use mathlib.Core.Logic.{⊎-elim}
@@ -45,6 +47,12 @@ abbrev close-slot-below : ℕ → In 3 close-slot-kinds.ps
 close-slot-below t =
     and 3 close-slot-kinds.ps (falls 3 close-slot-kinds.ps _<_ μ-close-slot t) close-slot.Pre
 
+abbrev cell-claims : ℕ → cell-lts.Claims
+cell-claims t = (wide-reads.Asked, wide-reads.Learnt, floor-reads.Asked, floor-reads.Learnt, permitted-reads.Asked, permitted-reads.Learnt, counter-reads.Asked, counter-reads.Learnt, rate-reads.Asked, rate-reads.Learnt, put-reads.Asked, put-reads.Learnt, close-slot-below t, close-slot.Post, take-back-reads.Asked, take-back-reads.Learnt)
+
+abbrev close-slot-claims : ℕ → close-slot-lts.Claims
+close-slot-claims t = (wide-reads.Asked, wide-reads.Learnt, cell-below t, cell.Post, closes-reads.Asked, closes-reads.Learnt)
+
 abbrev cell-Inv-loop : cell-lts.InvT-loop
 cell-Inv-loop table₀ left₀ board first slot core tries limit n floor used₀ barred₀ task₀ table left used barred task =
     Turn board limit first slot core table₀ left₀ tries n floor table left used barred task
@@ -53,601 +61,97 @@ abbrev cell-μ-loop : cell-lts.MeasureT-loop
 cell-μ-loop table₀ left₀ board first slot core tries limit n floor used₀ barred₀ task₀ table left used barred task =
     n - task
 
--- src/lib.rt:193:18
-cell-element-copy-out-wide : (t : ℕ) → cell-lts.Need-element-copy-out-wide (
-  wide-reads.Asked,
-  wide-reads.Learnt,
-  floor-reads.Asked,
-  floor-reads.Learnt,
-  permitted-reads.Asked,
-  permitted-reads.Learnt,
-  counter-reads.Asked,
-  counter-reads.Learnt,
-  rate-reads.Asked,
-  rate-reads.Learnt,
-  put-reads.Asked,
-  put-reads.Learnt,
-  close-slot-below t,
-  close-slot.Post,
-  take-back-reads.Asked,
-  take-back-reads.Learnt,
-) (cell-at t) cell.Post cell-Inv-loop cell-μ-loop
+cell-element-copy-out-wide : (t : ℕ) → cell-lts.Need-element-copy-out-wide (cell-claims t) (cell-at t) cell.Post cell-Inv-loop cell-μ-loop
 cell-element-copy-out-wide t c = search needs
 
--- src/lib.rt:193:9
-cell-wide-requires : (t : ℕ) → cell-lts.Need-wide-requires (
-  wide-reads.Asked,
-  wide-reads.Learnt,
-  floor-reads.Asked,
-  floor-reads.Learnt,
-  permitted-reads.Asked,
-  permitted-reads.Learnt,
-  counter-reads.Asked,
-  counter-reads.Learnt,
-  rate-reads.Asked,
-  rate-reads.Learnt,
-  put-reads.Asked,
-  put-reads.Learnt,
-  close-slot-below t,
-  close-slot.Post,
-  take-back-reads.Asked,
-  take-back-reads.Learnt,
-) (cell-at t) cell.Post cell-Inv-loop cell-μ-loop
+cell-wide-requires : (t : ℕ) → cell-lts.Need-wide-requires (cell-claims t) (cell-at t) cell.Post cell-Inv-loop cell-μ-loop
 cell-wide-requires t c κs = search needs
 
--- src/lib.rt:194:9
-cell-floor-requires : (t : ℕ) → cell-lts.Need-floor-requires (
-  wide-reads.Asked,
-  wide-reads.Learnt,
-  floor-reads.Asked,
-  floor-reads.Learnt,
-  permitted-reads.Asked,
-  permitted-reads.Learnt,
-  counter-reads.Asked,
-  counter-reads.Learnt,
-  rate-reads.Asked,
-  rate-reads.Learnt,
-  put-reads.Asked,
-  put-reads.Learnt,
-  close-slot-below t,
-  close-slot.Post,
-  take-back-reads.Asked,
-  take-back-reads.Learnt,
-) (cell-at t) cell.Post cell-Inv-loop cell-μ-loop
+cell-floor-requires : (t : ℕ) → cell-lts.Need-floor-requires (cell-claims t) (cell-at t) cell.Post cell-Inv-loop cell-μ-loop
 cell-floor-requires t c κs =
     let s = c .before .before .before in let f = s .pre .1 .0 in let inside = in-table f _ (s .pre .1 .1) in omega (arith, inside, f .cores)
 
--- src/lib.rt:198:5
-cell-loop-holds : (t : ℕ) → cell-lts.Need-loop-holds (
-  wide-reads.Asked,
-  wide-reads.Learnt,
-  floor-reads.Asked,
-  floor-reads.Learnt,
-  permitted-reads.Asked,
-  permitted-reads.Learnt,
-  counter-reads.Asked,
-  counter-reads.Learnt,
-  rate-reads.Asked,
-  rate-reads.Learnt,
-  put-reads.Asked,
-  put-reads.Learnt,
-  close-slot-below t,
-  close-slot.Post,
-  take-back-reads.Asked,
-  take-back-reads.Learnt,
-) (cell-at t) cell.Post cell-Inv-loop cell-μ-loop
+cell-loop-holds : (t : ℕ) → cell-lts.Need-loop-holds (cell-claims t) (cell-at t) cell.Post cell-Inv-loop cell-μ-loop
 cell-loop-holds t c =
     let s = c .before .before .before .before in begins (s .pre .1 .0) (s .pre .1 .1) (c .before .before .wide .ensures .0) (c .floor .ensures) (s .pre .1 .2)
 
--- src/lib.rt:199:12
-cell-permitted-requires : (t : ℕ) → cell-lts.Need-permitted-requires (
-  wide-reads.Asked,
-  wide-reads.Learnt,
-  floor-reads.Asked,
-  floor-reads.Learnt,
-  permitted-reads.Asked,
-  permitted-reads.Learnt,
-  counter-reads.Asked,
-  counter-reads.Learnt,
-  rate-reads.Asked,
-  rate-reads.Learnt,
-  put-reads.Asked,
-  put-reads.Learnt,
-  close-slot-below t,
-  close-slot.Post,
-  take-back-reads.Asked,
-  take-back-reads.Learnt,
-) (cell-at t) cell.Post cell-Inv-loop cell-μ-loop
+cell-permitted-requires : (t : ℕ) → cell-lts.Need-permitted-requires (cell-claims t) (cell-at t) cell.Post cell-Inv-loop cell-μ-loop
 cell-permitted-requires t c κs =
     let s = c .before .before .before .before .before .before .before .before in let f = s .pre .1 .0 in let inside = in-table f _ (s .pre .1 .1) in omega (arith, inside, f .cores, f .slots, f .slot-in, f .tasks, c .before .before .before .loop .inv .n-is, c .before .before .loop-test .taken)
 
--- src/lib.rt:200:34
-cell-add-wide : (t : ℕ) → cell-lts.Need-add-wide (
-  wide-reads.Asked,
-  wide-reads.Learnt,
-  floor-reads.Asked,
-  floor-reads.Learnt,
-  permitted-reads.Asked,
-  permitted-reads.Learnt,
-  counter-reads.Asked,
-  counter-reads.Learnt,
-  rate-reads.Asked,
-  rate-reads.Learnt,
-  put-reads.Asked,
-  put-reads.Learnt,
-  close-slot-below t,
-  close-slot.Post,
-  take-back-reads.Asked,
-  take-back-reads.Learnt,
-) (cell-at t) cell.Post cell-Inv-loop cell-μ-loop
+cell-add-wide : (t : ℕ) → cell-lts.Need-add-wide (cell-claims t) (cell-at t) cell.Post cell-Inv-loop cell-μ-loop
 cell-add-wide t c = search needs
 
--- src/lib.rt:200:28
-cell-mul-wide : (t : ℕ) → cell-lts.Need-mul-wide (
-  wide-reads.Asked,
-  wide-reads.Learnt,
-  floor-reads.Asked,
-  floor-reads.Learnt,
-  permitted-reads.Asked,
-  permitted-reads.Learnt,
-  counter-reads.Asked,
-  counter-reads.Learnt,
-  rate-reads.Asked,
-  rate-reads.Learnt,
-  put-reads.Asked,
-  put-reads.Learnt,
-  close-slot-below t,
-  close-slot.Post,
-  take-back-reads.Asked,
-  take-back-reads.Learnt,
-) (cell-at t) cell.Post cell-Inv-loop cell-μ-loop
+cell-mul-wide : (t : ℕ) → cell-lts.Need-mul-wide (cell-claims t) (cell-at t) cell.Post cell-Inv-loop cell-μ-loop
 cell-mul-wide t c = search needs
 
--- src/lib.rt:200:28
-cell-element-copy-out-wide-2 : (t : ℕ) → cell-lts.Need-element-copy-out-wide-2 (
-  wide-reads.Asked,
-  wide-reads.Learnt,
-  floor-reads.Asked,
-  floor-reads.Learnt,
-  permitted-reads.Asked,
-  permitted-reads.Learnt,
-  counter-reads.Asked,
-  counter-reads.Learnt,
-  rate-reads.Asked,
-  rate-reads.Learnt,
-  put-reads.Asked,
-  put-reads.Learnt,
-  close-slot-below t,
-  close-slot.Post,
-  take-back-reads.Asked,
-  take-back-reads.Learnt,
-) (cell-at t) cell.Post cell-Inv-loop cell-μ-loop
+cell-element-copy-out-wide-2 : (t : ℕ) → cell-lts.Need-element-copy-out-wide-2 (cell-claims t) (cell-at t) cell.Post cell-Inv-loop cell-μ-loop
 cell-element-copy-out-wide-2 t c = search needs
 
--- src/lib.rt:200:23
-cell-wide-requires-2 : (t : ℕ) → cell-lts.Need-wide-requires-2 (
-  wide-reads.Asked,
-  wide-reads.Learnt,
-  floor-reads.Asked,
-  floor-reads.Learnt,
-  permitted-reads.Asked,
-  permitted-reads.Learnt,
-  counter-reads.Asked,
-  counter-reads.Learnt,
-  rate-reads.Asked,
-  rate-reads.Learnt,
-  put-reads.Asked,
-  put-reads.Learnt,
-  close-slot-below t,
-  close-slot.Post,
-  take-back-reads.Asked,
-  take-back-reads.Learnt,
-) (cell-at t) cell.Post cell-Inv-loop cell-μ-loop
+cell-wide-requires-2 : (t : ℕ) → cell-lts.Need-wide-requires-2 (cell-claims t) (cell-at t) cell.Post cell-Inv-loop cell-μ-loop
 cell-wide-requires-2 t c κs = search needs
 
--- src/lib.rt:200:13
-cell-add-barred : (t : ℕ) → cell-lts.Need-add-barred (
-  wide-reads.Asked,
-  wide-reads.Learnt,
-  floor-reads.Asked,
-  floor-reads.Learnt,
-  permitted-reads.Asked,
-  permitted-reads.Learnt,
-  counter-reads.Asked,
-  counter-reads.Learnt,
-  rate-reads.Asked,
-  rate-reads.Learnt,
-  put-reads.Asked,
-  put-reads.Learnt,
-  close-slot-below t,
-  close-slot.Post,
-  take-back-reads.Asked,
-  take-back-reads.Learnt,
-) (cell-at t) cell.Post cell-Inv-loop cell-μ-loop
+cell-add-barred : (t : ℕ) → cell-lts.Need-add-barred (cell-claims t) (cell-at t) cell.Post cell-Inv-loop cell-μ-loop
 cell-add-barred t c = search needs
 
--- src/lib.rt:201:25
-cell-add-if2 : (t : ℕ) → cell-lts.Need-add-if2 (
-  wide-reads.Asked,
-  wide-reads.Learnt,
-  floor-reads.Asked,
-  floor-reads.Learnt,
-  permitted-reads.Asked,
-  permitted-reads.Learnt,
-  counter-reads.Asked,
-  counter-reads.Learnt,
-  rate-reads.Asked,
-  rate-reads.Learnt,
-  put-reads.Asked,
-  put-reads.Learnt,
-  close-slot-below t,
-  close-slot.Post,
-  take-back-reads.Asked,
-  take-back-reads.Learnt,
-) (cell-at t) cell.Post cell-Inv-loop cell-μ-loop
+cell-add-if2 : (t : ℕ) → cell-lts.Need-add-if2 (cell-claims t) (cell-at t) cell.Post cell-Inv-loop cell-μ-loop
 cell-add-if2 t c = search needs
 
--- src/lib.rt:203:21
-cell-returns : (t : ℕ) → cell-lts.Need-returns (
-  wide-reads.Asked,
-  wide-reads.Learnt,
-  floor-reads.Asked,
-  floor-reads.Learnt,
-  permitted-reads.Asked,
-  permitted-reads.Learnt,
-  counter-reads.Asked,
-  counter-reads.Learnt,
-  rate-reads.Asked,
-  rate-reads.Learnt,
-  put-reads.Asked,
-  put-reads.Learnt,
-  close-slot-below t,
-  close-slot.Post,
-  take-back-reads.Asked,
-  take-back-reads.Learnt,
-) (cell-at t) cell.Post cell-Inv-loop cell-μ-loop
+cell-returns : (t : ℕ) → cell-lts.Need-returns (cell-claims t) (cell-at t) cell.Post cell-Inv-loop cell-μ-loop
 cell-returns t c =
     stops (c .before .before .before .before .before .before .before .before .before .loop .inv) (c .before .before .before .before .before .before .before .before .loop-test .taken) (c .before .before .before .before .before .permitted .ensures) (c .before .before .before .before .if1 .taken) (c .before .before .wide2 .ensures .0) (c .before .before .wide2 .ensures .1) (c .before .if2 .taken) (c .if3 .taken)
 
--- src/lib.rt:208:21
-cell-counter-requires : (t : ℕ) → cell-lts.Need-counter-requires (
-  wide-reads.Asked,
-  wide-reads.Learnt,
-  floor-reads.Asked,
-  floor-reads.Learnt,
-  permitted-reads.Asked,
-  permitted-reads.Learnt,
-  counter-reads.Asked,
-  counter-reads.Learnt,
-  rate-reads.Asked,
-  rate-reads.Learnt,
-  put-reads.Asked,
-  put-reads.Learnt,
-  close-slot-below t,
-  close-slot.Post,
-  take-back-reads.Asked,
-  take-back-reads.Learnt,
-) (cell-at t) cell.Post cell-Inv-loop cell-μ-loop
+cell-counter-requires : (t : ℕ) → cell-lts.Need-counter-requires (cell-claims t) (cell-at t) cell.Post cell-Inv-loop cell-μ-loop
 cell-counter-requires t c κs = search needs
 
--- src/lib.rt:209:46
-cell-rate-requires : (t : ℕ) → cell-lts.Need-rate-requires (
-  wide-reads.Asked,
-  wide-reads.Learnt,
-  floor-reads.Asked,
-  floor-reads.Learnt,
-  permitted-reads.Asked,
-  permitted-reads.Learnt,
-  counter-reads.Asked,
-  counter-reads.Learnt,
-  rate-reads.Asked,
-  rate-reads.Learnt,
-  put-reads.Asked,
-  put-reads.Learnt,
-  close-slot-below t,
-  close-slot.Post,
-  take-back-reads.Asked,
-  take-back-reads.Learnt,
-) (cell-at t) cell.Post cell-Inv-loop cell-μ-loop
+cell-rate-requires : (t : ℕ) → cell-lts.Need-rate-requires (cell-claims t) (cell-at t) cell.Post cell-Inv-loop cell-μ-loop
 cell-rate-requires t c κs = search needs
 
--- src/lib.rt:209:21
-cell-put-requires : (t : ℕ) → cell-lts.Need-put-requires (
-  wide-reads.Asked,
-  wide-reads.Learnt,
-  floor-reads.Asked,
-  floor-reads.Learnt,
-  permitted-reads.Asked,
-  permitted-reads.Learnt,
-  counter-reads.Asked,
-  counter-reads.Learnt,
-  rate-reads.Asked,
-  rate-reads.Learnt,
-  put-reads.Asked,
-  put-reads.Learnt,
-  close-slot-below t,
-  close-slot.Post,
-  take-back-reads.Asked,
-  take-back-reads.Learnt,
-) (cell-at t) cell.Post cell-Inv-loop cell-μ-loop
+cell-put-requires : (t : ℕ) → cell-lts.Need-put-requires (cell-claims t) (cell-at t) cell.Post cell-Inv-loop cell-μ-loop
 cell-put-requires t c κs =
     (c .before .before .counter .ensures .1, rate-left _ _ _ _ _ _ _ _ _ (c .rate .ensures) (sym (c .before .before .before .before .before .before .before .before .permitted .ensures) ∙ c .before .before .before .before .before .before .before .if1 .taken) (c .before .before .counter .ensures .0))
 
--- src/lib.rt:210:40
-cell-add-table : (t : ℕ) → cell-lts.Need-add-table (
-  wide-reads.Asked,
-  wide-reads.Learnt,
-  floor-reads.Asked,
-  floor-reads.Learnt,
-  permitted-reads.Asked,
-  permitted-reads.Learnt,
-  counter-reads.Asked,
-  counter-reads.Learnt,
-  rate-reads.Asked,
-  rate-reads.Learnt,
-  put-reads.Asked,
-  put-reads.Learnt,
-  close-slot-below t,
-  close-slot.Post,
-  take-back-reads.Asked,
-  take-back-reads.Learnt,
-) (cell-at t) cell.Post cell-Inv-loop cell-μ-loop
+cell-add-table : (t : ℕ) → cell-lts.Need-add-table (cell-claims t) (cell-at t) cell.Post cell-Inv-loop cell-μ-loop
 cell-add-table t c = search needs
 
--- src/lib.rt:210:39
-cell-cast-table : (t : ℕ) → cell-lts.Need-cast-table (
-  wide-reads.Asked,
-  wide-reads.Learnt,
-  floor-reads.Asked,
-  floor-reads.Learnt,
-  permitted-reads.Asked,
-  permitted-reads.Learnt,
-  counter-reads.Asked,
-  counter-reads.Learnt,
-  rate-reads.Asked,
-  rate-reads.Learnt,
-  put-reads.Asked,
-  put-reads.Learnt,
-  close-slot-below t,
-  close-slot.Post,
-  take-back-reads.Asked,
-  take-back-reads.Learnt,
-) (cell-at t) cell.Post cell-Inv-loop cell-μ-loop
+cell-cast-table : (t : ℕ) → cell-lts.Need-cast-table (cell-claims t) (cell-at t) cell.Post cell-Inv-loop cell-μ-loop
 cell-cast-table t c = search needs
 
--- src/lib.rt:210:23
-cell-add-table-2 : (t : ℕ) → cell-lts.Need-add-table-2 (
-  wide-reads.Asked,
-  wide-reads.Learnt,
-  floor-reads.Asked,
-  floor-reads.Learnt,
-  permitted-reads.Asked,
-  permitted-reads.Learnt,
-  counter-reads.Asked,
-  counter-reads.Learnt,
-  rate-reads.Asked,
-  rate-reads.Learnt,
-  put-reads.Asked,
-  put-reads.Learnt,
-  close-slot-below t,
-  close-slot.Post,
-  take-back-reads.Asked,
-  take-back-reads.Learnt,
-) (cell-at t) cell.Post cell-Inv-loop cell-μ-loop
+cell-add-table-2 : (t : ℕ) → cell-lts.Need-add-table-2 (cell-claims t) (cell-at t) cell.Post cell-Inv-loop cell-μ-loop
 cell-add-table-2 t c =
     let s = c .before .before .before .before .before .before .before .before .before .before .before .before .before .before .before .before .before .before in let f = s .pre .1 .0 in let inside = in-table f _ (s .pre .1 .1) in omega (arith, inside)
 
--- src/lib.rt:210:17
-cell-element-write-table : (t : ℕ) → cell-lts.Need-element-write-table (
-  wide-reads.Asked,
-  wide-reads.Learnt,
-  floor-reads.Asked,
-  floor-reads.Learnt,
-  permitted-reads.Asked,
-  permitted-reads.Learnt,
-  counter-reads.Asked,
-  counter-reads.Learnt,
-  rate-reads.Asked,
-  rate-reads.Learnt,
-  put-reads.Asked,
-  put-reads.Learnt,
-  close-slot-below t,
-  close-slot.Post,
-  take-back-reads.Asked,
-  take-back-reads.Learnt,
-) (cell-at t) cell.Post cell-Inv-loop cell-μ-loop
+cell-element-write-table : (t : ℕ) → cell-lts.Need-element-write-table (cell-claims t) (cell-at t) cell.Post cell-Inv-loop cell-μ-loop
 cell-element-write-table t c =
     let s = c .before .before .before .before .before .before .before .before .before .before .before .before .before .before .before .before .before .before in let f = s .pre .1 .0 in let inside = in-table f _ (s .pre .1 .1) in inside
 
--- src/lib.rt:211:69
-cell-add-close-slot : (t : ℕ) → cell-lts.Need-add-close-slot (
-  wide-reads.Asked,
-  wide-reads.Learnt,
-  floor-reads.Asked,
-  floor-reads.Learnt,
-  permitted-reads.Asked,
-  permitted-reads.Learnt,
-  counter-reads.Asked,
-  counter-reads.Learnt,
-  rate-reads.Asked,
-  rate-reads.Learnt,
-  put-reads.Asked,
-  put-reads.Learnt,
-  close-slot-below t,
-  close-slot.Post,
-  take-back-reads.Asked,
-  take-back-reads.Learnt,
-) (cell-at t) cell.Post cell-Inv-loop cell-μ-loop
+cell-add-close-slot : (t : ℕ) → cell-lts.Need-add-close-slot (cell-claims t) (cell-at t) cell.Post cell-Inv-loop cell-μ-loop
 cell-add-close-slot t c = search needs
 
--- src/lib.rt:211:79
-cell-add-close-slot-2 : (t : ℕ) → cell-lts.Need-add-close-slot-2 (
-  wide-reads.Asked,
-  wide-reads.Learnt,
-  floor-reads.Asked,
-  floor-reads.Learnt,
-  permitted-reads.Asked,
-  permitted-reads.Learnt,
-  counter-reads.Asked,
-  counter-reads.Learnt,
-  rate-reads.Asked,
-  rate-reads.Learnt,
-  put-reads.Asked,
-  put-reads.Learnt,
-  close-slot-below t,
-  close-slot.Post,
-  take-back-reads.Asked,
-  take-back-reads.Learnt,
-) (cell-at t) cell.Post cell-Inv-loop cell-μ-loop
+cell-add-close-slot-2 : (t : ℕ) → cell-lts.Need-add-close-slot-2 (cell-claims t) (cell-at t) cell.Post cell-Inv-loop cell-μ-loop
 cell-add-close-slot-2 t c = search needs
 
--- src/lib.rt:211:21
-cell-close-slot-requires : (t : ℕ) → cell-lts.Need-close-slot-requires (
-  wide-reads.Asked,
-  wide-reads.Learnt,
-  floor-reads.Asked,
-  floor-reads.Learnt,
-  permitted-reads.Asked,
-  permitted-reads.Learnt,
-  counter-reads.Asked,
-  counter-reads.Learnt,
-  rate-reads.Asked,
-  rate-reads.Learnt,
-  put-reads.Asked,
-  put-reads.Learnt,
-  close-slot-below t,
-  close-slot.Post,
-  take-back-reads.Asked,
-  take-back-reads.Learnt,
-) (cell-at t) cell.Post cell-Inv-loop cell-μ-loop
+cell-close-slot-requires : (t : ℕ) → cell-lts.Need-close-slot-requires (cell-claims t) (cell-at t) cell.Post cell-Inv-loop cell-μ-loop
 cell-close-slot-requires t c κs =
     let s = c .before .before .before .before .before .before .before .before .before .before .before .before .before .before .before .before .before .before .before .before in let f = s .pre .1 .0 in (omega (arith, s .pre .0, in-cells f _ (s .pre .1 .1)), (f, omega arith, omega (arith, s .pre .1 .1), omega (arith, c .before .before .before .before .before .before .before .before .before .before .before .before .before .before .before .loop .inv .most, c .before .before .before .before .before .before .if3 .left)))
 
--- src/lib.rt:215:35
-cell-enum-told : (t : ℕ) → cell-lts.Need-enum-told (
-  wide-reads.Asked,
-  wide-reads.Learnt,
-  floor-reads.Asked,
-  floor-reads.Learnt,
-  permitted-reads.Asked,
-  permitted-reads.Learnt,
-  counter-reads.Asked,
-  counter-reads.Learnt,
-  rate-reads.Asked,
-  rate-reads.Learnt,
-  put-reads.Asked,
-  put-reads.Learnt,
-  close-slot-below t,
-  close-slot.Post,
-  take-back-reads.Asked,
-  take-back-reads.Learnt,
-) (cell-at t) cell.Post cell-Inv-loop cell-μ-loop
+cell-enum-told : (t : ℕ) → cell-lts.Need-enum-told (cell-claims t) (cell-at t) cell.Post cell-Inv-loop cell-μ-loop
 cell-enum-told t c = search needs
 
--- src/lib.rt:215:25
-cell-take-back-requires : (t : ℕ) → cell-lts.Need-take-back-requires (
-  wide-reads.Asked,
-  wide-reads.Learnt,
-  floor-reads.Asked,
-  floor-reads.Learnt,
-  permitted-reads.Asked,
-  permitted-reads.Learnt,
-  counter-reads.Asked,
-  counter-reads.Learnt,
-  rate-reads.Asked,
-  rate-reads.Learnt,
-  put-reads.Asked,
-  put-reads.Learnt,
-  close-slot-below t,
-  close-slot.Post,
-  take-back-reads.Asked,
-  take-back-reads.Learnt,
-) (cell-at t) cell.Post cell-Inv-loop cell-μ-loop
+cell-take-back-requires : (t : ℕ) → cell-lts.Need-take-back-requires (cell-claims t) (cell-at t) cell.Post cell-Inv-loop cell-μ-loop
 cell-take-back-requires t c κs = search needs
 
--- src/lib.rt:219:25
-cell-returns-2 : (t : ℕ) → cell-lts.Need-returns-2 (
-  wide-reads.Asked,
-  wide-reads.Learnt,
-  floor-reads.Asked,
-  floor-reads.Learnt,
-  permitted-reads.Asked,
-  permitted-reads.Learnt,
-  counter-reads.Asked,
-  counter-reads.Learnt,
-  rate-reads.Asked,
-  rate-reads.Learnt,
-  put-reads.Asked,
-  put-reads.Learnt,
-  close-slot-below t,
-  close-slot.Post,
-  take-back-reads.Asked,
-  take-back-reads.Learnt,
-) (cell-at t) cell.Post cell-Inv-loop cell-μ-loop
+cell-returns-2 : (t : ℕ) → cell-lts.Need-returns-2 (cell-claims t) (cell-at t) cell.Post cell-Inv-loop cell-μ-loop
 cell-returns-2 t c =
     ends (c .before .before .before .before .before .before .before .before .before .before .before .before .before .before .before .before .before .loop .inv) (c .before .before .before .before .before .before .before .before .before .before .before .before .before .before .before .before .loop-test .taken) (c .before .before .before .before .before .before .before .before .before .before .before .before .before .permitted .ensures) (c .before .before .before .before .before .before .before .before .before .before .before .before .if1 .taken) (c .before .before .before .before .before .before .before .before .before .before .wide2 .ensures .0) (c .before .before .before .before .before .before .before .before .before .before .wide2 .ensures .1) (c .before .before .before .before .before .before .before .before .before .if2 .taken) (c .before .before .before .before .before .before .before .before .if3 .left) (c .before .before .before .before .before .before .before .counter .ensures .0) (c .before .before .before .before .before .rate .ensures) (c .before .before .before .before .put .ensures .0) (c .before .before .before .before .put .ensures .1) (c .before .close-slot .ensures) (c .match .keys2)
 
--- src/lib.rt:224:9
-cell-add-task : (t : ℕ) → cell-lts.Need-add-task (
-  wide-reads.Asked,
-  wide-reads.Learnt,
-  floor-reads.Asked,
-  floor-reads.Learnt,
-  permitted-reads.Asked,
-  permitted-reads.Learnt,
-  counter-reads.Asked,
-  counter-reads.Learnt,
-  rate-reads.Asked,
-  rate-reads.Learnt,
-  put-reads.Asked,
-  put-reads.Learnt,
-  close-slot-below t,
-  close-slot.Post,
-  take-back-reads.Asked,
-  take-back-reads.Learnt,
-) (cell-at t) cell.Post cell-Inv-loop cell-μ-loop
+cell-add-task : (t : ℕ) → cell-lts.Need-add-task (cell-claims t) (cell-at t) cell.Post cell-Inv-loop cell-μ-loop
 cell-add-task t c = search needs
 
--- src/lib.rt:198:5
-cell-loop-less : (t : ℕ) → cell-lts.Need-loop-less (
-  wide-reads.Asked,
-  wide-reads.Learnt,
-  floor-reads.Asked,
-  floor-reads.Learnt,
-  permitted-reads.Asked,
-  permitted-reads.Learnt,
-  counter-reads.Asked,
-  counter-reads.Learnt,
-  rate-reads.Asked,
-  rate-reads.Learnt,
-  put-reads.Asked,
-  put-reads.Learnt,
-  close-slot-below t,
-  close-slot.Post,
-  take-back-reads.Asked,
-  take-back-reads.Learnt,
-) (cell-at t) cell.Post cell-Inv-loop cell-μ-loop
+cell-loop-less : (t : ℕ) → cell-lts.Need-loop-less (cell-claims t) (cell-at t) cell.Post cell-Inv-loop cell-μ-loop
 cell-loop-less t c = search needs
 
--- src/lib.rt:198:5
-cell-loop-again : (t : ℕ) → cell-lts.Need-loop-again (
-  wide-reads.Asked,
-  wide-reads.Learnt,
-  floor-reads.Asked,
-  floor-reads.Learnt,
-  permitted-reads.Asked,
-  permitted-reads.Learnt,
-  counter-reads.Asked,
-  counter-reads.Learnt,
-  rate-reads.Asked,
-  rate-reads.Learnt,
-  put-reads.Asked,
-  put-reads.Learnt,
-  close-slot-below t,
-  close-slot.Post,
-  take-back-reads.Asked,
-  take-back-reads.Learnt,
-) (cell-at t) cell.Post cell-Inv-loop cell-μ-loop
+cell-loop-again : (t : ℕ) → cell-lts.Need-loop-again (cell-claims t) (cell-at t) cell.Post cell-Inv-loop cell-μ-loop
 cell-loop-again t c =
     let turn = c .before .before .before .before .before .loop .inv in
     let more = c .before .before .before .before .loop-test .taken in
@@ -659,337 +163,81 @@ cell-loop-again t c =
     (λ w. turn-same (skips turn more may (w .0 .left)) (w .1) (w .2) (w .3) (w .4)))
     (c .if1 .came)
 
--- src/lib.rt:227:9
-cell-returns-3 : (t : ℕ) → cell-lts.Need-returns-3 (
-  wide-reads.Asked,
-  wide-reads.Learnt,
-  floor-reads.Asked,
-  floor-reads.Learnt,
-  permitted-reads.Asked,
-  permitted-reads.Learnt,
-  counter-reads.Asked,
-  counter-reads.Learnt,
-  rate-reads.Asked,
-  rate-reads.Learnt,
-  put-reads.Asked,
-  put-reads.Learnt,
-  close-slot-below t,
-  close-slot.Post,
-  take-back-reads.Asked,
-  take-back-reads.Learnt,
-) (cell-at t) cell.Post cell-Inv-loop cell-μ-loop
+cell-returns-3 : (t : ℕ) → cell-lts.Need-returns-3 (cell-claims t) (cell-at t) cell.Post cell-Inv-loop cell-μ-loop
 cell-returns-3 t c =
     idle-barred (c .before .before .loop .inv) (c .before .loop-test .left) (c .if4 .taken)
 
--- src/lib.rt:233:9
-cell-returns-4 : (t : ℕ) → cell-lts.Need-returns-4 (
-  wide-reads.Asked,
-  wide-reads.Learnt,
-  floor-reads.Asked,
-  floor-reads.Learnt,
-  permitted-reads.Asked,
-  permitted-reads.Learnt,
-  counter-reads.Asked,
-  counter-reads.Learnt,
-  rate-reads.Asked,
-  rate-reads.Learnt,
-  put-reads.Asked,
-  put-reads.Learnt,
-  close-slot-below t,
-  close-slot.Post,
-  take-back-reads.Asked,
-  take-back-reads.Learnt,
-) (cell-at t) cell.Post cell-Inv-loop cell-μ-loop
+cell-returns-4 : (t : ℕ) → cell-lts.Need-returns-4 (cell-claims t) (cell-at t) cell.Post cell-Inv-loop cell-μ-loop
 cell-returns-4 t c =
     idle-stops (c .before .before .before .loop .inv) (c .before .before .loop-test .left) (omega (arith, c .before .if4 .left)) (c .if5 .taken)
 
--- src/lib.rt:238:11
-cell-add-table-3 : (t : ℕ) → cell-lts.Need-add-table-3 (
-  wide-reads.Asked,
-  wide-reads.Learnt,
-  floor-reads.Asked,
-  floor-reads.Learnt,
-  permitted-reads.Asked,
-  permitted-reads.Learnt,
-  counter-reads.Asked,
-  counter-reads.Learnt,
-  rate-reads.Asked,
-  rate-reads.Learnt,
-  put-reads.Asked,
-  put-reads.Learnt,
-  close-slot-below t,
-  close-slot.Post,
-  take-back-reads.Asked,
-  take-back-reads.Learnt,
-) (cell-at t) cell.Post cell-Inv-loop cell-μ-loop
+cell-add-table-3 : (t : ℕ) → cell-lts.Need-add-table-3 (cell-claims t) (cell-at t) cell.Post cell-Inv-loop cell-μ-loop
 cell-add-table-3 t c =
     let s = c .before .before .before .before .before .before .before .before in let f = s .pre .1 .0 in let inside = in-table f _ (s .pre .1 .1) in omega (arith, inside)
 
--- src/lib.rt:238:5
-cell-element-write-table-2 : (t : ℕ) → cell-lts.Need-element-write-table-2 (
-  wide-reads.Asked,
-  wide-reads.Learnt,
-  floor-reads.Asked,
-  floor-reads.Learnt,
-  permitted-reads.Asked,
-  permitted-reads.Learnt,
-  counter-reads.Asked,
-  counter-reads.Learnt,
-  rate-reads.Asked,
-  rate-reads.Learnt,
-  put-reads.Asked,
-  put-reads.Learnt,
-  close-slot-below t,
-  close-slot.Post,
-  take-back-reads.Asked,
-  take-back-reads.Learnt,
-) (cell-at t) cell.Post cell-Inv-loop cell-μ-loop
+cell-element-write-table-2 : (t : ℕ) → cell-lts.Need-element-write-table-2 (cell-claims t) (cell-at t) cell.Post cell-Inv-loop cell-μ-loop
 cell-element-write-table-2 t c =
     let s = c .before .before .before .before .before .before .before .before in let f = s .pre .1 .0 in let inside = in-table f _ (s .pre .1 .1) in inside
 
--- src/lib.rt:239:49
-cell-add-close-slot-3 : (t : ℕ) → cell-lts.Need-add-close-slot-3 (
-  wide-reads.Asked,
-  wide-reads.Learnt,
-  floor-reads.Asked,
-  floor-reads.Learnt,
-  permitted-reads.Asked,
-  permitted-reads.Learnt,
-  counter-reads.Asked,
-  counter-reads.Learnt,
-  rate-reads.Asked,
-  rate-reads.Learnt,
-  put-reads.Asked,
-  put-reads.Learnt,
-  close-slot-below t,
-  close-slot.Post,
-  take-back-reads.Asked,
-  take-back-reads.Learnt,
-) (cell-at t) cell.Post cell-Inv-loop cell-μ-loop
+cell-add-close-slot-3 : (t : ℕ) → cell-lts.Need-add-close-slot-3 (cell-claims t) (cell-at t) cell.Post cell-Inv-loop cell-μ-loop
 cell-add-close-slot-3 t c = search needs
 
--- src/lib.rt:239:59
-cell-add-close-slot-4 : (t : ℕ) → cell-lts.Need-add-close-slot-4 (
-  wide-reads.Asked,
-  wide-reads.Learnt,
-  floor-reads.Asked,
-  floor-reads.Learnt,
-  permitted-reads.Asked,
-  permitted-reads.Learnt,
-  counter-reads.Asked,
-  counter-reads.Learnt,
-  rate-reads.Asked,
-  rate-reads.Learnt,
-  put-reads.Asked,
-  put-reads.Learnt,
-  close-slot-below t,
-  close-slot.Post,
-  take-back-reads.Asked,
-  take-back-reads.Learnt,
-) (cell-at t) cell.Post cell-Inv-loop cell-μ-loop
+cell-add-close-slot-4 : (t : ℕ) → cell-lts.Need-add-close-slot-4 (cell-claims t) (cell-at t) cell.Post cell-Inv-loop cell-μ-loop
 cell-add-close-slot-4 t c = search needs
 
--- src/lib.rt:239:5
-cell-close-slot-requires-2 : (t : ℕ) → cell-lts.Need-close-slot-requires-2 (
-  wide-reads.Asked,
-  wide-reads.Learnt,
-  floor-reads.Asked,
-  floor-reads.Learnt,
-  permitted-reads.Asked,
-  permitted-reads.Learnt,
-  counter-reads.Asked,
-  counter-reads.Learnt,
-  rate-reads.Asked,
-  rate-reads.Learnt,
-  put-reads.Asked,
-  put-reads.Learnt,
-  close-slot-below t,
-  close-slot.Post,
-  take-back-reads.Asked,
-  take-back-reads.Learnt,
-) (cell-at t) cell.Post cell-Inv-loop cell-μ-loop
+cell-close-slot-requires-2 : (t : ℕ) → cell-lts.Need-close-slot-requires-2 (cell-claims t) (cell-at t) cell.Post cell-Inv-loop cell-μ-loop
 cell-close-slot-requires-2 t c κs =
     let s = c .before .before .before .before .before .before .before .before .before .before in let f = s .pre .1 .0 in (omega (arith, s .pre .0, in-cells f _ (s .pre .1 .1)), (f, omega arith, omega (arith, s .pre .1 .1), omega (arith, c .before .before .before .before .before .loop .inv .most, c .before .before .if5 .left)))
 
--- src/lib.rt:180:1
-cell-returns-5 : (t : ℕ) → cell-lts.Need-returns-5 (
-  wide-reads.Asked,
-  wide-reads.Learnt,
-  floor-reads.Asked,
-  floor-reads.Learnt,
-  permitted-reads.Asked,
-  permitted-reads.Learnt,
-  counter-reads.Asked,
-  counter-reads.Learnt,
-  rate-reads.Asked,
-  rate-reads.Learnt,
-  put-reads.Asked,
-  put-reads.Learnt,
-  close-slot-below t,
-  close-slot.Post,
-  take-back-reads.Asked,
-  take-back-reads.Learnt,
-) (cell-at t) cell.Post cell-Inv-loop cell-μ-loop
+cell-returns-5 : (t : ℕ) → cell-lts.Need-returns-5 (cell-claims t) (cell-at t) cell.Post cell-Inv-loop cell-μ-loop
 cell-returns-5 t c =
     idles (c .before .before .before .before .before .before .loop .inv) (c .before .before .before .before .before .loop-test .left) (omega (arith, c .before .before .before .before .if4 .left)) (c .before .before .before .if5 .left) (c .close-slot2 .ensures)
 
--- src/lib.rt:256:20
-close-slot-element-copy-out-wide : (t : ℕ) → close-slot-lts.Need-element-copy-out-wide (
-  wide-reads.Asked,
-  wide-reads.Learnt,
-  cell-below t,
-  cell.Post,
-  closes-reads.Asked,
-  closes-reads.Learnt,
-) (close-slot-at t) close-slot.Post
+close-slot-element-copy-out-wide : (t : ℕ) → close-slot-lts.Need-element-copy-out-wide (close-slot-claims t) (close-slot-at t) close-slot.Post
 close-slot-element-copy-out-wide t c = search needs
 
--- src/lib.rt:256:15
-close-slot-wide-requires : (t : ℕ) → close-slot-lts.Need-wide-requires (
-  wide-reads.Asked,
-  wide-reads.Learnt,
-  cell-below t,
-  cell.Post,
-  closes-reads.Asked,
-  closes-reads.Learnt,
-) (close-slot-at t) close-slot.Post
+close-slot-wide-requires : (t : ℕ) → close-slot-lts.Need-wide-requires (close-slot-claims t) (close-slot-at t) close-slot.Post
 close-slot-wide-requires t c κs = search needs
 
--- src/lib.rt:257:9
-close-slot-cell-requires : (t : ℕ) → close-slot-lts.Need-cell-requires (
-  wide-reads.Asked,
-  wide-reads.Learnt,
-  cell-below t,
-  cell.Post,
-  closes-reads.Asked,
-  closes-reads.Learnt,
-) (close-slot-at t) close-slot.Post
+close-slot-cell-requires : (t : ℕ) → close-slot-lts.Need-cell-requires (close-slot-claims t) (close-slot-at t) close-slot.Post
 close-slot-cell-requires t c κs = search needs
 
--- src/lib.rt:257:9
-close-slot-returns : (t : ℕ) → close-slot-lts.Need-returns (
-  wide-reads.Asked,
-  wide-reads.Learnt,
-  cell-below t,
-  cell.Post,
-  closes-reads.Asked,
-  closes-reads.Learnt,
-) (close-slot-at t) close-slot.Post
+close-slot-returns : (t : ℕ) → close-slot-lts.Need-returns (close-slot-claims t) (close-slot-at t) close-slot.Post
 close-slot-returns t c =
     goes-on (omega (arith, c .before .before .before .before .wide .ensures .0, c .before .before .before .if1 .taken)) (c .cell .ensures)
 
--- src/lib.rt:259:8
-close-slot-closes-requires : (t : ℕ) → close-slot-lts.Need-closes-requires (
-  wide-reads.Asked,
-  wide-reads.Learnt,
-  cell-below t,
-  cell.Post,
-  closes-reads.Asked,
-  closes-reads.Learnt,
-) (close-slot-at t) close-slot.Post
+close-slot-closes-requires : (t : ℕ) → close-slot-lts.Need-closes-requires (close-slot-claims t) (close-slot-at t) close-slot.Post
 close-slot-closes-requires t c κs = search needs
 
--- src/lib.rt:260:12
-close-slot-add-if3 : (t : ℕ) → close-slot-lts.Need-add-if3 (
-  wide-reads.Asked,
-  wide-reads.Learnt,
-  cell-below t,
-  cell.Post,
-  closes-reads.Asked,
-  closes-reads.Learnt,
-) (close-slot-at t) close-slot.Post
+close-slot-add-if3 : (t : ℕ) → close-slot-lts.Need-add-if3 (close-slot-claims t) (close-slot-at t) close-slot.Post
 close-slot-add-if3 t c = search needs
 
--- src/lib.rt:260:28
-close-slot-element-copy-out-wide-2 : (t : ℕ) → close-slot-lts.Need-element-copy-out-wide-2 (
-  wide-reads.Asked,
-  wide-reads.Learnt,
-  cell-below t,
-  cell.Post,
-  closes-reads.Asked,
-  closes-reads.Learnt,
-) (close-slot-at t) close-slot.Post
+close-slot-element-copy-out-wide-2 : (t : ℕ) → close-slot-lts.Need-element-copy-out-wide-2 (close-slot-claims t) (close-slot-at t) close-slot.Post
 close-slot-element-copy-out-wide-2 t c = search needs
 
--- src/lib.rt:260:23
-close-slot-wide-requires-2 : (t : ℕ) → close-slot-lts.Need-wide-requires-2 (
-  wide-reads.Asked,
-  wide-reads.Learnt,
-  cell-below t,
-  cell.Post,
-  closes-reads.Asked,
-  closes-reads.Learnt,
-) (close-slot-at t) close-slot.Post
+close-slot-wide-requires-2 : (t : ℕ) → close-slot-lts.Need-wide-requires-2 (close-slot-claims t) (close-slot-at t) close-slot.Post
 close-slot-wide-requires-2 t c κs = search needs
 
--- src/lib.rt:261:45
-close-slot-add-cell : (t : ℕ) → close-slot-lts.Need-add-cell (
-  wide-reads.Asked,
-  wide-reads.Learnt,
-  cell-below t,
-  cell.Post,
-  closes-reads.Asked,
-  closes-reads.Learnt,
-) (close-slot-at t) close-slot.Post
+close-slot-add-cell : (t : ℕ) → close-slot-lts.Need-add-cell (close-slot-claims t) (close-slot-at t) close-slot.Post
 close-slot-add-cell t c =
     let s = c .before .before .before .before .before .before .before .before .before .before .before in omega (arith, upto-table (s .pre .1 .0) _ (s .pre .1 .2))
 
--- src/lib.rt:261:59
-close-slot-add-cell-2 : (t : ℕ) → close-slot-lts.Need-add-cell-2 (
-  wide-reads.Asked,
-  wide-reads.Learnt,
-  cell-below t,
-  cell.Post,
-  closes-reads.Asked,
-  closes-reads.Learnt,
-) (close-slot-at t) close-slot.Post
+close-slot-add-cell-2 : (t : ℕ) → close-slot-lts.Need-add-cell-2 (close-slot-claims t) (close-slot-at t) close-slot.Post
 close-slot-add-cell-2 t c = search needs
 
--- src/lib.rt:261:13
-close-slot-cell-requires-2 : (t : ℕ) → close-slot-lts.Need-cell-requires-2 (
-  wide-reads.Asked,
-  wide-reads.Learnt,
-  cell-below t,
-  cell.Post,
-  closes-reads.Asked,
-  closes-reads.Learnt,
-) (close-slot-at t) close-slot.Post
+close-slot-cell-requires-2 : (t : ℕ) → close-slot-lts.Need-cell-requires-2 (close-slot-claims t) (close-slot-at t) close-slot.Post
 close-slot-cell-requires-2 t c κs =
     let s = c .before .before .before .before .before .before .before .before .before .before .before in let f = s .pre .1 .0 in (omega (arith, s .pre .0), (next-slot f _ (omega (arith, c .before .before .before .before .before .before .before .before .before .wide .ensures .0, c .before .before .before .before .before .before .before .before .if1 .left)) (s .pre .1 .2) (omega (arith, c .before .before .before .wide2 .ensures .0, c .before .before .if3 .taken)), omega (arith, s .pre .1 .1, s .pre .1 .2), s .pre .1 .3))
 
--- src/lib.rt:261:13
-close-slot-returns-2 : (t : ℕ) → close-slot-lts.Need-returns-2 (
-  wide-reads.Asked,
-  wide-reads.Learnt,
-  cell-below t,
-  cell.Post,
-  closes-reads.Asked,
-  closes-reads.Learnt,
-) (close-slot-at t) close-slot.Post
+close-slot-returns-2 : (t : ℕ) → close-slot-lts.Need-returns-2 (close-slot-claims t) (close-slot-at t) close-slot.Post
 close-slot-returns-2 t c =
     next-slots (omega (arith, c .before .before .before .before .before .before .before .before .before .before .wide .ensures .0, c .before .before .before .before .before .before .before .before .before .if1 .left)) (c .before .before .before .before .before .before .before .closes .ensures) (c .before .before .before .before .before .before .if2 .taken) (omega (arith, c .before .before .before .before .wide2 .ensures .0, c .before .before .before .if3 .taken)) (c .cell2 .ensures)
 
--- src/lib.rt:263:9
-close-slot-returns-3 : (t : ℕ) → close-slot-lts.Need-returns-3 (
-  wide-reads.Asked,
-  wide-reads.Learnt,
-  cell-below t,
-  cell.Post,
-  closes-reads.Asked,
-  closes-reads.Learnt,
-) (close-slot-at t) close-slot.Post
+close-slot-returns-3 : (t : ℕ) → close-slot-lts.Need-returns-3 (close-slot-claims t) (close-slot-at t) close-slot.Post
 close-slot-returns-3 t c =
     founds (omega (arith, c .before .before .before .before .before .before .before .wide .ensures .0, c .before .before .before .before .before .before .if1 .left)) (c .before .before .before .before .closes .ensures) (c .before .before .before .if2 .taken) (omega (arith, c .before .wide2 .ensures .0, c .if3 .left)) (c .before .before .before .before .before .before .before .before .before .pre .1 .3)
 
--- src/lib.rt:243:1
-close-slot-returns-4 : (t : ℕ) → close-slot-lts.Need-returns-4 (
-  wide-reads.Asked,
-  wide-reads.Learnt,
-  cell-below t,
-  cell.Post,
-  closes-reads.Asked,
-  closes-reads.Learnt,
-) (close-slot-at t) close-slot.Post
+close-slot-returns-4 : (t : ℕ) → close-slot-lts.Need-returns-4 (close-slot-claims t) (close-slot-at t) close-slot.Post
 close-slot-returns-4 t c =
     starved (omega (arith, c .before .before .before .before .wide .ensures .0, c .before .before .before .if1 .left)) (c .before .closes .ensures) (c .if2 .left) (c .before .before .before .before .before .before .pre .1 .3)
 

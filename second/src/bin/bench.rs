@@ -1,0 +1,261 @@
+//! Times the proved walk and this program's walk over the same lists, in one process.
+
+#[path = "../proved.rs"]
+#[allow(dead_code)] // only the search is timed
+mod proved;
+
+use second::random::Random;
+use second::tasks::{Problem, Task, MOST_CELLS, MOST_CORES, MOST_SLOTS, MOST_TASKS};
+use second::verdict::Ending;
+use second::walk::search;
+use std::array::from_fn;
+use std::hint::black_box;
+use std::thread;
+use std::time::{Duration, Instant};
+
+const LIMIT: u32 = 1_000_000;
+const ROUNDS: usize = 7;
+
+/// How many lists of a sort are timed.
+const LISTS: usize = 12;
+
+/// A walk of fewer tries is not timed.
+const LEAST_TRIES: u32 = 10_000;
+
+/// The slots of a short table and of a long one.
+const SHORT: usize = 12;
+const LONG: usize = MOST_SLOTS;
+
+/// Searches, and gives the verdict and the tries.
+type Walk = fn(&Problem, &mut [u8]) -> (u32, u32);
+
+const WALKS: [Walk; 2] = [ordinary, proved::search];
+
+/// Makes a list by its number, with H as given.
+type Maker = fn(u64, usize) -> Problem;
+
+fn main() {
+    println!("Limit {LIMIT} tries. Least time of {ROUNDS} rounds after a warm-up, walks in turn.");
+    println!("The table buffer is set to 255 before each run, outside the time.");
+    println!("What a search itself allocates, sets up or clears is inside the time.");
+
+    let endings = [Ending::Found, Ending::None, Ending::Stopped];
+    let [ordinary, proved] = cost(&timed(&endings.map(mixed_lists).concat()));
+    println!("ns per try, 3 to 16 tasks, 1 to 4 cores, both engines,");
+    println!("{LISTS} lists with a table, {LISTS} without, {LISTS} stopped:");
+    println!("  ordinary {ordinary:.2}, proved {proved:.2}");
+    println!("  proved / ordinary {:.2}", proved / ordinary);
+
+    let makers = [
+        ("stretched", stretched as Maker),
+        ("lengthened", lengthened),
+    ];
+    for (how, make) in makers {
+        let lists = [SHORT, LONG]
+            .map(|slots| stopped_lists(make, slots))
+            .concat();
+        let all = timed(&lists);
+        let (short, long) = (cost(&all[..LISTS]), cost(&all[LISTS..]));
+        println!("ns per try, {LISTS} lists at H = {SHORT} and {how} to H = {LONG}, all stopped:");
+        for (walk, name) in ["ordinary", "proved"].into_iter().enumerate() {
+            let (short, long) = (short[walk], long[walk]);
+            println!(
+                "  {name} {short:.2} and {long:.2}, ratio {:.2}",
+                long / short
+            );
+        }
+    }
+
+    let [ordinary, proved] = WALKS.map(stack_taken);
+    println!("bytes of stack for a table of {MOST_CELLS} cells:");
+    println!("  ordinary {ordinary}, proved {proved}");
+}
+
+fn ordinary(problem: &Problem, table: &mut [u8]) -> (u32, u32) {
+    let outcome = search(problem, table).expect("the list is sound");
+    (outcome.ending as u32, outcome.tries)
+}
+
+/// The tries of a list, and the least time of each walk.
+struct Timed {
+    tries: u32,
+    least: [Duration; 2],
+}
+
+/// Times both walks over lists. Each round goes over all of them, so that they share good times and
+/// bad.
+fn timed(lists: &[Problem]) -> Vec<Timed> {
+    let mut table = vec![0; MOST_CELLS];
+    let warm_up = |problem| {
+        let [ordinary, proved] = WALKS.map(|walk| walk(problem, &mut table));
+        assert_eq!(ordinary, proved, "both walks end alike");
+        Timed {
+            tries: ordinary.1,
+            least: [Duration::MAX; 2],
+        }
+    };
+    let mut all: Vec<Timed> = lists.iter().map(warm_up).collect();
+    for _ in 0..ROUNDS {
+        for (problem, timed) in lists.iter().zip(&mut all) {
+            for (walk, least) in WALKS.into_iter().zip(&mut timed.least) {
+                table.fill(255);
+                let start = Instant::now();
+                black_box(walk(problem, &mut table));
+                *least = start.elapsed().min(*least);
+            }
+        }
+    }
+    all
+}
+
+/// Nanoseconds per try of each walk, over all these lists together.
+fn cost(all: &[Timed]) -> [f64; 2] {
+    let tries: u32 = all.iter().map(|timed| timed.tries).sum();
+    from_fn(|walk| {
+        let time: Duration = all.iter().map(|timed| timed.least[walk]).sum();
+        time.as_nanos() as f64 / f64::from(tries)
+    })
+}
+
+/// Lists of several H whose walk ends as asked.
+fn mixed_lists(ending: Ending) -> Vec<Problem> {
+    (0..)
+        .map(|number| stretched(number, [12, 24, 60, 120][number as usize % 4]))
+        .filter(|problem| ends(problem, ending))
+        .take(LISTS)
+        .collect()
+}
+
+/// Lists of so many slots; only those that the limit stops at either H.
+fn stopped_lists(make: Maker, slots: usize) -> Vec<Problem> {
+    (0..)
+        .filter(|&number| {
+            [SHORT, LONG]
+                .iter()
+                .all(|&h| ends(&make(number, h), Ending::Stopped))
+        })
+        .map(|number| make(number, slots))
+        .take(LISTS)
+        .collect()
+}
+
+fn ends(problem: &Problem, ending: Ending) -> bool {
+    let (verdict, tries) = ordinary(problem, &mut [0; MOST_CELLS]);
+    verdict == ending as u32 && tries >= LEAST_TRIES
+}
+
+/// A random list, its times in proportion to `slots`.
+fn stretched(number: u64, slots: usize) -> Problem {
+    let mut random = Random::new(number);
+    let count = random.between(3, MOST_TASKS);
+    let cores = random.between(1, MOST_CORES);
+    let (least_rate, most_rate) = random.pick(&[(1, 1), (0, 3)]);
+    let engine = random.below(2) as u8;
+    let task = |at| {
+        let mut rates = [0; MOST_CORES];
+        rates[..cores].fill_with(|| random.between(least_rate, most_rate) as u8);
+        let jobs = if at == 0 {
+            1
+        } else {
+            random.pick(&[1, 1, 2, 4])
+        };
+        let period = slots / jobs;
+        let deadline = period * random.between(5, 12) / 12;
+        let work = deadline * cores * random.between(6, 18) / (12 * count);
+        Task {
+            offset: (slots * random.below(12) / 12) as u16,
+            work: work.max(1) as u16,
+            deadline: deadline as u16,
+            period: period as u16,
+            rates,
+        }
+    };
+    Problem {
+        tasks: (0..count).map(task).collect(),
+        cores: cores as u8,
+        engine,
+        limit: LIMIT,
+    }
+}
+
+/// A list that is alike in every slot, whatever H. Two tasks a core can always be served; the last
+/// task spans the table and cannot, which the walk learns in the last slot only.
+fn lengthened(number: u64, slots: usize) -> Problem {
+    let mut random = Random::new(number);
+    let cores = random.between(1, MOST_CORES);
+    let engine = random.below(2) as u8;
+    let rates = from_fn(|core| u8::from(core < cores));
+    let task = |_| {
+        let period = random.pick(&[2, 4]);
+        Task {
+            offset: random.below(4) as u16,
+            work: 1,
+            deadline: period,
+            period,
+            rates,
+        }
+    };
+    let mut tasks: Vec<Task> = (0..2 * cores).map(task).collect();
+    tasks.push(Task {
+        offset: 0,
+        work: 4096,
+        deadline: slots as u16,
+        period: slots as u16,
+        rates,
+    });
+    Problem {
+        tasks,
+        cores: cores as u8,
+        engine,
+        limit: LIMIT,
+    }
+}
+
+/// The bytes of stack that a walk takes to fill the largest table: a thread's stack is painted
+/// below the frame in use, and afterwards the deepest place without paint is looked for.
+fn stack_taken(walk: Walk) -> usize {
+    const STACK: usize = 64 << 20;
+    const PAINTED: usize = 48 << 20;
+    const FRAME: usize = 1024;
+    const PAINT: u64 = 0xA5A5_A5A5_A5A5_A5A5;
+    let measure = move || {
+        let problem = full_list();
+        let mut table = vec![0; MOST_CELLS];
+        let here = (&raw const problem).addr() & !7;
+        let words = || (here - PAINTED..here - FRAME).step_by(8);
+        for word in words() {
+            // SAFETY: the word lies in this thread's stack, below the frame in use.
+            unsafe { (word as *mut u64).write_volatile(PAINT) };
+        }
+        walk(&problem, &mut table);
+        let deepest = words().find(|&word| {
+            // SAFETY: as above.
+            unsafe { (word as *const u64).read_volatile() != PAINT }
+        });
+        here - deepest.expect("a walk takes more than this frame")
+    };
+    thread::Builder::new()
+        .stack_size(STACK)
+        .spawn(measure)
+        .expect("a thread can be started")
+        .join()
+        .expect("the walk ends")
+}
+
+/// A list whose only table has 4096 cells and none of them idle.
+fn full_list() -> Problem {
+    let slots = MOST_SLOTS as u16;
+    let task = |at| Task {
+        offset: 0,
+        work: slots,
+        deadline: slots,
+        period: slots,
+        rates: from_fn(|core| u8::from(core == at)),
+    };
+    Problem {
+        tasks: (0..MOST_CORES).map(task).collect(),
+        cores: MOST_CORES as u8,
+        engine: 1,
+        limit: LIMIT,
+    }
+}

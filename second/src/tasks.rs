@@ -1,0 +1,226 @@
+//! Tasks, problems, and the refusals 1 to 8.
+
+use crate::verdict::Refusal;
+
+pub const MOST_TASKS: usize = 16;
+pub const MOST_CORES: usize = 4;
+pub const MOST_SLOTS: usize = 1024;
+pub const MOST_CELLS: usize = MOST_SLOTS * MOST_CORES;
+const MOST_OFFSET: u16 = 1023;
+const MOST_WORK: u16 = 4096;
+pub const MOST_RATE: u8 = 15;
+
+/// A task; its rates are those of the four cores, 0 where it cannot run.
+#[derive(Clone, Copy, Debug, PartialEq, Eq)]
+pub struct Task {
+    pub offset: u16,
+    pub work: u16,
+    pub deadline: u16,
+    pub period: u16,
+    pub rates: [u8; MOST_CORES],
+}
+
+impl Task {
+    /// The place p of a slot: how far it lies behind the offset, round a table of `h` slots.
+    fn place(&self, slot: usize, h: usize) -> usize {
+        (slot + h - self.offset as usize % h) % h
+    }
+
+    /// The number, from 0, of the job that a slot belongs to.
+    pub fn job(&self, slot: usize, h: usize) -> usize {
+        self.place(slot, h) / self.period as usize
+    }
+
+    /// Whether the slot lies in its job's window.
+    pub fn open(&self, slot: usize, h: usize) -> bool {
+        self.place(slot, h) % (self.period as usize) < self.deadline as usize
+    }
+
+    /// Refusals 3 to 7, on a board of `cores` cores.
+    fn check(&self, cores: usize) -> Result<(), Refusal> {
+        let (on_board, beyond) = self.rates.split_at(cores);
+        if !(1..=MOST_SLOTS as u16).contains(&self.period) {
+            Err(Refusal::Period)
+        } else if !(1..=self.period).contains(&self.deadline) {
+            Err(Refusal::Deadline)
+        } else if !(1..=MOST_WORK).contains(&self.work) {
+            Err(Refusal::Work)
+        } else if self.offset > MOST_OFFSET {
+            Err(Refusal::Offset)
+        } else if on_board.iter().any(|&rate| rate > MOST_RATE)
+            || beyond.iter().any(|&rate| rate > 0)
+        {
+            Err(Refusal::Rate)
+        } else {
+            Ok(())
+        }
+    }
+}
+
+/// A task list, the number of cores, and what the search is to do with them.
+#[derive(Clone, Debug, PartialEq, Eq)]
+pub struct Problem {
+    pub tasks: Vec<Task>,
+    pub cores: u8,
+    pub engine: u8,
+    pub limit: u32,
+}
+
+impl Problem {
+    /// H of a sound list, else the first of refusals 1 to 8.
+    pub fn h(&self) -> Result<usize, Refusal> {
+        if !(1..=MOST_TASKS).contains(&self.tasks.len()) {
+            return Err(Refusal::TaskCount);
+        }
+        if !(1..=MOST_CORES).contains(&self.cores()) {
+            return Err(Refusal::Cores);
+        }
+        for task in &self.tasks {
+            task.check(self.cores())?;
+        }
+        self.tasks.iter().try_fold(1, |h, task| {
+            let h = least_common_multiple(h, task.period as usize);
+            if h > MOST_SLOTS {
+                Err(Refusal::TableLength)
+            } else {
+                Ok(h)
+            }
+        })
+    }
+
+    pub fn cores(&self) -> usize {
+        self.cores as usize
+    }
+}
+
+fn least_common_multiple(a: usize, b: usize) -> usize {
+    let (mut divisor, mut rest) = (a, b);
+    while rest > 0 {
+        (divisor, rest) = (rest, divisor % rest);
+    }
+    a / divisor * b
+}
+
+#[cfg(test)]
+mod tests {
+    use super::*;
+
+    const TASK: Task = Task {
+        offset: 0,
+        work: 1,
+        deadline: 1,
+        period: 32,
+        rates: [1, 0, 0, 0],
+    };
+
+    fn refusal(tasks: &[Task], cores: u8) -> Option<u8> {
+        let problem = Problem {
+            tasks: tasks.to_vec(),
+            cores,
+            engine: 0,
+            limit: 0,
+        };
+        problem.h().err().map(|refusal| refusal as u8)
+    }
+
+    #[test]
+    fn ranges() {
+        let most = Task {
+            offset: 1023,
+            work: 4096,
+            deadline: 1024,
+            period: 1024,
+            rates: [15; 4],
+        };
+        assert_eq!(refusal(&[most; 16], 4), None);
+        assert_eq!(
+            refusal(
+                &[Task {
+                    rates: [0; 4],
+                    ..TASK
+                }],
+                1
+            ),
+            None
+        );
+        assert_eq!(
+            refusal(
+                &[Task {
+                    offset: 1024,
+                    ..TASK
+                }],
+                1
+            ),
+            Some(6)
+        );
+        assert_eq!(refusal(&[Task { work: 4097, ..TASK }], 1), Some(5));
+        assert_eq!(
+            refusal(
+                &[Task {
+                    rates: [16, 0, 0, 0],
+                    ..TASK
+                }],
+                1
+            ),
+            Some(7)
+        );
+        assert_eq!(
+            refusal(
+                &[Task {
+                    rates: [1, 0, 0, 1],
+                    ..TASK
+                }],
+                3
+            ),
+            Some(7)
+        );
+    }
+
+    /// Of several faults the first in the order is named.
+    #[test]
+    fn order() {
+        let bad = Task {
+            offset: 1024,
+            work: 0,
+            deadline: 0,
+            period: 0,
+            rates: [16; 4],
+        };
+        let long = Task { period: 33, ..TASK };
+        assert_eq!(refusal(&[bad; 17], 5), Some(1));
+        assert_eq!(refusal(&[], 0), Some(1));
+        let mut tasks = [TASK, bad, long, bad];
+        assert_eq!(refusal(&tasks, 5), Some(2));
+        assert_eq!(refusal(&tasks, 0), Some(2));
+        assert_eq!(refusal(&tasks, 1), Some(3));
+        tasks[1].period = 32;
+        assert_eq!(refusal(&tasks, 1), Some(4));
+        tasks[1].deadline = 32;
+        assert_eq!(refusal(&tasks, 1), Some(5));
+        tasks[1].work = 1;
+        assert_eq!(refusal(&tasks, 1), Some(6));
+        tasks[1].offset = 0;
+        assert_eq!(refusal(&tasks, 1), Some(7));
+        tasks[1].rates = [1, 0, 0, 0];
+        assert_eq!(refusal(&tasks, 1), Some(3));
+        tasks[3] = TASK;
+        assert_eq!(refusal(&tasks, 1), Some(8));
+    }
+
+    #[test]
+    fn windows_run_round_the_end() {
+        let task = Task {
+            offset: 1023,
+            deadline: 3,
+            period: 4,
+            ..TASK
+        };
+        // 1023 is 3 past a multiple of 12.
+        let jobs = [2, 2, 2, 0, 0, 0, 0, 1, 1, 1, 1, 2];
+        let closed = [2, 6, 10];
+        for (slot, job) in jobs.into_iter().enumerate() {
+            assert_eq!(task.job(slot, 12), job);
+            assert_eq!(task.open(slot, 12), !closed.contains(&slot));
+        }
+    }
+}
