@@ -228,8 +228,9 @@ module _ {L D T q : ℕ} (w : Cyclic L D T q) (O : ℕ) where
   first-slot k u = ap (λ x. x % L) (omega arith) ∙ sym (mod-add-mod (O + k * T) L u)
 
   -- the highest slot of a job whose window does not run round the table's end is the window's last
-  pub last-straight : (k : ℕ) → k < q → (O + k * T) % L + (D - 1) < L → (O + k * T) % L + (D - 1) ≡ lastSlot L O D T k
-  last-straight k h fits =
+  pub last-straight : (k : ℕ) → k < q → (O + k * T) % L + (D - 1) ≤ L - 1 → (O + k * T) % L + (D - 1) ≡ lastSlot L O D T k
+  last-straight k h ends =
+      let fits : (O + k * T) % L + (D - 1) < L = omega (arith, pos-L w) in
       sym (highest-is L (isJobs L O D T k) _ fits
       (subst (λ x. Passes (isJobs L O D T k x)) (first-slot k (D - 1) ∙ mod-eq-of-lt fits) (window-slot k (D - 1) h (omega arith)))
       (λ t a l p. let s = slot-window k t l p in
@@ -237,7 +238,7 @@ module _ {L D T q : ℕ} (w : Cyclic L D T q) (O : ℕ) where
       omega (arith, first-slot k (s .0), s .2)))
 
   -- and else it is the table's last
-  pub last-round : (k : ℕ) → k < q → L ≤ (O + k * T) % L + (D - 1) → L - 1 ≡ lastSlot L O D T k
+  pub last-round : (k : ℕ) → k < q → L - 1 < (O + k * T) % L + (D - 1) → L - 1 ≡ lastSlot L O D T k
   last-round k h over =
       let first : (O + k * T) % L < L = mod-lt (O + k * T) (pos-L w) in
       sym (highest-is L (isJobs L O D T k) (L - 1) (omega arith)

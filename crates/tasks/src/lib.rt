@@ -227,8 +227,9 @@ pub fn open_in(len: Slots, t: Task, slot: Slots) -> Window
     ensures { λ r. ⌜ r ≡ windowAt (len .0) t (slot .0) ⌝ }
 {
     let p = place(len, t.offset, slot);
+    let job = p.0 / t.period.0;
     if p.0 % t.period.0 < t.deadline.0 {
-        Window::Open(p.0 / t.period.0)
+        Window::Open(job)
     } else {
         Window::Closed
     }
@@ -241,9 +242,6 @@ pub fn last_slot(len: Slots, t: Task, job: u16) -> Slots
 {
     let first = (t.offset.0 + job * t.period.0) % len.0;
     let last = first + (t.deadline.0 - 1);
-    if last < len.0 {
-        Slots(last)
-    } else {
-        Slots(len.0 - 1)
-    }
+    let end = len.0 - 1;
+    if last <= end { Slots(last) } else { Slots(end) }
 }

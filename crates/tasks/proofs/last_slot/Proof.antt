@@ -22,15 +22,15 @@ sub-last c = search needs
 add-last : tie.Need-add-last
 add-last c = record { fits = lt-trans (end-fits (c .before .before .before .before .pre .2) _ _) (omega arith) }
 
-sub-t10 : tie.Need-sub-t10
-sub-t10 c = omega (arith, pos-L (c .before .before .before .before .before .before .before .pre .2))
+sub-end : tie.Need-sub-end
+sub-end c = pos-L (c .before .before .before .before .before .pre .2)
 
 returns : tie.Need-returns
-returns c = last-straight (c .before .before .before .before .before .before .pre .2) _ _ (c .before .before .before .before .before .before .pre .3) (c .if1 .taken)
+returns c = let pre = c .before .before .before .before .before .before .pre in last-straight (pre .2) _ _ (pre .3) (c .if1 .taken)
 
 returns-2 : tie.Need-returns-2
-returns-2 c = last-round (c .before .before .before .before .before .before .before .pre .2) _ _ (c .before .before .before .before .before .before .before .pre .3) (c .before .if1 .left)
+returns-2 c = let pre = c .before .before .before .before .before .before .pre in last-round (pre .2) _ _ (pre .3) (c .if1 .left)
 
 pub last-slot-spec : {M : Type 1} → statement M
 last-slot-spec =
-    tie.close (tie.spec mul-first add-first rem-first sub-last add-last sub-t10 returns returns-2)
+    tie.close (tie.spec mul-first add-first rem-first sub-last add-last sub-end returns returns-2)
