@@ -212,9 +212,9 @@ module _ {m : ℕ} (list : TaskList) (s : SoundList m (rows list)) (e : ℕ) whe
   }
 
   -- and the walk stands at its start
-  pub board-fits : Fits (boardOf list m e (tableLength (rows list)) (replicate 16483 0)) 0 0
+  start-fits : Fits (boardOf list m e (tableLength (rows list)) (replicate 16483 0)) 0 0
   unfolding instanceOf
-  board-fits = record {
+  start-fits = record {
     tasks = omega (arith, board-ready .tasks, s .few-tasks);
     cores = omega (arith, board-ready .cores, s .few-cores);
     slots = omega (arith, board-ready .slots, s .few-slots);
@@ -242,33 +242,42 @@ module _ {m : ℕ} (list : TaskList) (s : SoundList m (rows list)) (e : ℕ) whe
           ∙ sym (ap (λ τ. τ .work .0) (is-task v l .1))
           ∙ omega arith
 
+-- the board of a sound list
+module _ (m : ℕ) (list : TaskList) (e L : ℕ) (sound : IsSound m (rows list)) (eL : L ≡ tableLength (rows list)) where
+  pub board-fits : Fits (boardOf list m e L (replicate 16483 0)) 0 0
+  board-fits = rw eL (start-fits list (sound-list m (rows list) sound) e)
+
+  pub board-cores : coresOn (boardOf list m e L (replicate 16483 0)) ≡ m
+  unfolding instanceOf
+  board-cores = rw eL (board-ready list (sound-list m (rows list) sound) e .cores)
+
 -- ---- what the search tells
 -- what the end of the walk makes of the answer and the buffer, n cells long
-pub data Tells (n : ℕ) (r : Walked) (t buffer : List ℕ) : Answer → List ℕ → Type 0 where
-  found : r .end ≡ Found → Tells n r t buffer (record { verdict = 0; tries = r .tries }) (filled buffer 0 n (nth t))
-  none : r .end ≡ Nothing → Tells n r t buffer (record { verdict = 13; tries = r .tries }) (filled buffer 0 n (λ _. 0))
-  stopped : r .end ≡ Stopped → Tells n r t buffer (record { verdict = 14; tries = r .tries }) (filled buffer 0 n (λ _. 0))
+pub data Tells (n : ℕ) (r : Walked) (t buffer buffer′ : List ℕ) : Answer → Type 0 where
+  found : r .end ≡ Found → buffer′ ≡ filled buffer 0 n (nth t) → Tells n r t buffer buffer′ (record { verdict = 0; tries = r .tries })
+  none : r .end ≡ Nothing → buffer′ ≡ filled buffer 0 n (λ _. 0) → Tells n r t buffer buffer′ (record { verdict = 13; tries = r .tries })
+  stopped : r .end ≡ Stopped → buffer′ ≡ filled buffer 0 n (λ _. 0) → Tells n r t buffer buffer′ (record { verdict = 14; tries = r .tries })
 
 -- the first n cells 0
 cleared : (n : ℕ) (buffer : List ℕ) → n ≤ length buffer → filled buffer 0 n (λ _. 0) ≡ over (replicate n 0) buffer
 cleared n buffer room = filled-over n buffer (λ _. 0) room ∙ ap (λ s. over s buffer) (tab-replicate n 0)
 
 -- an end, told
-told-end : (n : ℕ) (r : Walked) (t buffer : List ℕ) (x : Answer) (buffer′ : List ℕ) → n ≤ length t → n ≤ length buffer → Tells n r t buffer x buffer′
+told-end : (n : ℕ) (r : Walked) (t buffer : List ℕ) (x : Answer) (buffer′ : List ℕ) → n ≤ length t → n ≤ length buffer → Tells n r t buffer buffer′ x
     → toldOf x buffer′ ≡ told n buffer (toldAt (r .end) n 0 t (r .tries))
 unfolding told toldAt
-told-end n r t buffer x buffer′ long room (found e) = rw e (λ i. record { verdict = 0; tries = r .tries; buffer = same i })
+told-end n r t buffer x buffer′ long room (found e h) = rw e (λ i. record { verdict = 0; tries = r .tries; buffer = same i })
   where
-    same : filled buffer 0 n (nth t) ≡ over (take (n - 0) (drop 0 t)) buffer
-    same = let whole : n ≡ n - 0 = omega arith in filled-over n buffer (nth t) room ∙ ap (λ s. over s buffer) (tab-take n t long ∙ ap (λ k. take k t) whole)
-told-end n r t buffer x buffer′ long room (none e) = rw e (λ i. record { verdict = 13; tries = r .tries; buffer = cleared n buffer room i })
-told-end n r t buffer x buffer′ long room (stopped e) = rw e (λ i. record { verdict = 14; tries = r .tries; buffer = cleared n buffer room i })
+    same : buffer′ ≡ over (take (n - 0) (drop 0 t)) buffer
+    same = let whole : n ≡ n - 0 = omega arith in h ∙ filled-over n buffer (nth t) room ∙ ap (λ s. over s buffer) (tab-take n t long ∙ ap (λ k. take k t) whole)
+told-end n r t buffer x buffer′ long room (none e h) = rw e (λ i. record { verdict = 13; tries = r .tries; buffer = (h ∙ cleared n buffer room) i })
+told-end n r t buffer x buffer′ long room (stopped e h) = rw e (λ i. record { verdict = 14; tries = r .tries; buffer = (h ∙ cleared n buffer room) i })
 
 -- the walk on the filled arrays tells what the engine's walk does under the limit
 pub walk-told : (m : ℕ) (list : TaskList) (e b L : ℕ) (buffer : List ℕ) → IsSound m (rows list) → L ≡ tableLength (rows list) → L * m ≤ length buffer
     → (board left : List ℕ) → board ≡ boardOf list m e L (replicate 16483 0) → left ≡ filled (replicate 32768 0) 0 16384 (workAt (list .work))
     → (r : Walked) (t l : List ℕ) → Ran board b 0 0 0 (replicate 4096 0) left 0 r t l
-    → (x : Answer) (buffer′ : List ℕ) → Tells (L * m) r t buffer x buffer′ → toldOf x buffer′ ≡ walkTold m (rows list) e b buffer
+    → (x : Answer) (buffer′ : List ℕ) → Tells (L * m) r t buffer buffer′ x → toldOf x buffer′ ≡ walkTold m (rows list) e b buffer
 unfolding walkTold instanceOf
 walk-told m list e b L buffer sound eL room board left eb el r t l ran x buffer′ tells =
     told-end (L * m) r t buffer x buffer′ (rw (shows .long) (rw (length-replicate {A = ℕ} 4096 0) few)) room tells

@@ -1,1 +1,3 @@
+pub mod FillLaws
 pub mod BoardLaws
+pub mod AnswerLaws

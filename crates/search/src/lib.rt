@@ -8,9 +8,12 @@ ghost use Rattle.tasks.specs.Task.{taskAt, rows};
 ghost use Rattle.tasks.specs.Refusal.{IsSound, tableLength};
 ghost use Rattle.rules.specs.Search.{search as searchOf};
 ghost use Rattle.search.specs.Board.{Fit, entryFor, gridEntry, rowEven, evenPair, evenWith, evenMark, coresTwin, twinMark, workAt, boardOf, walkTold, refusedBy, toldOf};
-
-use tasks::{Slots, Rates, Task, TaskList, Window, Soundness};
-
+use tasks::Rates;
+use tasks::Slots;
+use tasks::Soundness;
+use tasks::Task;
+use tasks::TaskList;
+use tasks::Window;
 use walk::End;
 
 const RATES: usize = 16384;
@@ -55,7 +58,12 @@ fn grid_entry(list: TaskList, len: Slots, x: usize) -> u16
 {
     let v = x % 16;
     if v < list.n as usize {
-        entry(len, tasks::task_at(list, v), v as u16, Slots((x / 16) as u16))
+        entry(
+            len,
+            tasks::task_at(list, v),
+            v as u16,
+            Slots((x / 16) as u16),
+        )
     } else {
         0
     }
@@ -184,7 +192,11 @@ fn twin_mark(list: TaskList, engine: u8, x: usize) -> u16
         return 0;
     }
     let rates = list.rates;
-    if twin_cores(list.n as usize, rates, x % 4, x / 4) { 1 } else { 0 }
+    if twin_cores(list.n as usize, rates, x % 4, x / 4) {
+        1
+    } else {
+        0
+    }
 }
 
 fn fill_twins(board: &mut [u16; 16483], list: TaskList, engine: u8)
@@ -267,14 +279,7 @@ const NONE: u8 = 13;
 const STOPPED: u8 = 14;
 
 // The walk over a sound list, and what it leaves in the buffer.
-fn walk_list(
-    list: TaskList,
-    m: u8,
-    engine: u8,
-    limit: u32,
-    len: Slots,
-    table: &mut [u8],
-) -> Answer
+fn walk_list(list: TaskList, m: u8, engine: u8, limit: u32, len: Slots, table: &mut [u8]) -> Answer
     requires { ⌜ IsSound m (rows list) × (len .0 ≡ tableLength (rows list)) × (engine ≤ 1) × (len .0 * m ≤ length (now table)) ⌝ }
     ensures { λ r. ⌜ toldOf r (now (table .exit)) ≡ walkTold m (rows list) engine limit (now (table .entry)) ⌝ }
 {
@@ -323,13 +328,7 @@ fn refused(number: u8) -> Answer
 }
 
 // The search of a list on m cores, by an engine, with a limit of tries, into the caller's buffer.
-pub fn search(
-    list: TaskList,
-    m: u8,
-    engine: u8,
-    limit: u32,
-    table: &mut [u8],
-) -> Answer
+pub fn search(list: TaskList, m: u8, engine: u8, limit: u32, table: &mut [u8]) -> Answer
     ensures { λ r. ⌜ toldOf r (now (table .exit)) ≡ searchOf m (rows list) engine limit (now (table .entry)) ⌝ }
 {
     let soundness = tasks::test_list(list, m);

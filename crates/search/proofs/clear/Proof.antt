@@ -1,0 +1,53 @@
+-- `search::clear` meets its contract. The loop's invariant: the cells passed are 0, and the others are as they were.
+-- Assumes nothing.
+use Prim.Native.Nat.{_-_, _≤_}
+use mathlib.Core.Path.{_≡_, refl}
+use borrow.Author.Needs.{needs}
+use native.Mathlib.Omega.{arith}
+use lib.ListN.{length, length-set}
+use Rattle.laws.specs.Lists.{filled}
+use Rattle.laws.proofs.ListLaws.{filled-none}
+use Rattle.search.proofs.FillLaws.{next-stored, all-stored}
+use Rattle.search.proofs.clear.Statement.{statement}
+use Rattle.search.proofs.clear.Tie as tie
+
+abbrev Inv-loop : tie.InvT-loop
+Inv-loop table₀ n i₀ table i = (i ≤ n) × (length table ≡ length table₀) × (table ≡ filled table₀ 0 i (λ _. 0))
+
+abbrev μ-loop : tie.MeasureT-loop
+μ-loop table₀ n i₀ table i = n - i
+
+loop-holds : tie.Need-loop-holds Inv-loop μ-loop
+loop-holds c = (search needs, search needs, filled-none _ _ _)
+
+slice-write-table : tie.Need-slice-write-table Inv-loop μ-loop
+slice-write-table c = search needs
+
+add-i : tie.Need-add-i Inv-loop μ-loop
+add-i c = search needs
+
+loop-less : tie.Need-loop-less Inv-loop μ-loop
+loop-less c = search needs
+
+loop-again : tie.Need-loop-again Inv-loop μ-loop
+loop-again c = (search needs, simp length-set (search needs), next-stored _ _ _ _ _ (c .before .loop .inv .2) refl)
+
+same-length : tie.Need-same-length Inv-loop μ-loop
+same-length c = search needs
+
+returns : tie.Need-returns Inv-loop μ-loop
+returns c = all-stored _ _ _ _ _ _ (omega arith) (omega arith) (c .before .loop .inv .2)
+
+pub clear-spec : {M : Type 1} → statement M
+clear-spec =
+    tie.close
+    (tie.spec
+    Inv-loop
+    μ-loop
+    loop-holds
+    slice-write-table
+    add-i
+    loop-less
+    loop-again
+    same-length
+    returns)

@@ -1,0 +1,32 @@
+-- `search::grid_entry` meets its contract: a place has its task's entry, and 0 where it has no task.
+-- Assumes nothing.
+use borrow.Author.Needs.{needs}
+use Rattle.search.proofs.FillLaws.{read-fits, grid-task, grid-none}
+use Rattle.search.proofs.grid_entry.Statement.{statement}
+use Rattle.search.proofs.grid_entry.Tie as tie
+
+cast-if1 : tie.Need-cast-if1
+cast-if1 c = search needs
+
+task-at-requires : tie.Need-task-at-requires
+task-at-requires c κs = search needs
+
+cast-entry : tie.Need-cast-entry
+cast-entry c = search needs
+
+cast-t11 : tie.Need-cast-t11
+cast-t11 c = search needs
+
+entry-requires : tie.Need-entry-requires
+entry-requires c κs = (read-fits _ _ _ _ (c .task-at .ensures) (c .before .before .before .pre .1 _ (c .before .if1 .taken)), search needs, search needs)
+
+returns : tie.Need-returns
+returns c = grid-task _ _ _ _ _ (c .before .before .if1 .taken) (c .before .task-at .ensures) (c .entry .ensures)
+
+returns-2 : tie.Need-returns-2
+returns-2 c = grid-none _ _ _ (c .if1 .left)
+
+pub grid-entry-spec : {M : Type 1} → statement M
+grid-entry-spec =
+    tie.close
+    (tie.spec cast-if1 task-at-requires cast-entry cast-t11 entry-requires returns returns-2)

@@ -1,0 +1,81 @@
+-- `search::walk_list` meets its contract: the walk runs on the board and the counters of a sound list, and its end is told.
+-- Assumes nothing.
+use borrow.Author.Needs.{needs}
+use Rattle.search.proofs.FillLaws.{sound-fits}
+use Rattle.search.proofs.BoardLaws.{found, none, stopped, walk-told}
+use Rattle.search.proofs.AnswerLaws.{few-cells, board-ready}
+use Rattle.search.proofs.walk_list.Statement.{statement}
+use Rattle.search.proofs.walk_list.Tie as tie
+
+fill-board-requires : tie.Need-fill-board-requires
+fill-board-requires c κs = sound-fits _ _ _ (c .before .before .pre .0) (c .before .before .pre .1)
+
+fill-left-requires : tie.Need-fill-left-requires
+fill-left-requires c κs = search needs
+
+cast-n : tie.Need-cast-n
+cast-n c = search needs
+
+mul-n : tie.Need-mul-n
+mul-n c = search needs
+
+cell-requires : tie.Need-cell-requires
+cell-requires c κs = let h = board-ready _ _ _ _ _ (c .before .before .before .before .before .before .before .before .before .before .pre .0) (c .before .before .before .before .before .before .before .before .before .before .pre .1) (c .before .before .before .before .before .before .before .fill-board .ensures) in (h .0, h .1, search needs)
+
+enum-told : tie.Need-enum-told
+enum-told c = search needs
+
+hand-over-requires : tie.Need-hand-over-requires
+hand-over-requires c κs = (few-cells _ _ _ (c .before .before .before .before .before .before .before .before .before .before .before .before .before .before .before .pre .0) (c .before .before .before .before .before .before .before .before .before .before .before .before .before .before .before .pre .1), search needs)
+
+enum-told-2 : tie.Need-enum-told-2
+enum-told-2 c = search needs
+
+clear-requires : tie.Need-clear-requires
+clear-requires c κs = search needs
+
+enum-told-3 : tie.Need-enum-told-3
+enum-told-3 c = search needs
+
+clear-requires-2 : tie.Need-clear-requires-2
+clear-requires-2 c κs = search needs
+
+same-length : tie.Need-same-length
+same-length c = search needs
+
+returns : tie.Need-returns
+returns c = walk-told _ _ _ _ _ _ (c .before .before .before .before .before .before .before .before .before .before .before .before .before .before .before .before .before .before .pre .0) (c .before .before .before .before .before .before .before .before .before .before .before .before .before .before .before .before .before .before .pre .1) (c .before .before .before .before .before .before .before .before .before .before .before .before .before .before .before .before .before .before .pre .3) _ _ (c .before .before .before .before .before .before .before .before .before .before .before .before .before .before .before .fill-board .ensures) (c .before .before .before .before .before .before .before .before .before .before .before .before .fill-left .ensures) _ _ _ (c .before .before .before .before .before .before .before .cell .ensures) _ _ (found (c .before .before .before .before .before .enum-told .given .1) (c .before .before .hand-over .ensures))
+
+same-length-2 : tie.Need-same-length-2
+same-length-2 c = search needs
+
+returns-2 : tie.Need-returns-2
+returns-2 c = walk-told _ _ _ _ _ _ (c .before .before .before .before .before .before .before .before .before .before .before .before .before .before .before .before .before .pre .0) (c .before .before .before .before .before .before .before .before .before .before .before .before .before .before .before .before .before .pre .1) (c .before .before .before .before .before .before .before .before .before .before .before .before .before .before .before .before .before .pre .3) _ _ (c .before .before .before .before .before .before .before .before .before .before .before .before .before .before .fill-board .ensures) (c .before .before .before .before .before .before .before .before .before .before .before .fill-left .ensures) _ _ _ (c .before .before .before .before .before .before .cell .ensures) _ _ (none (c .before .before .before .before .enum-told2 .given .1) (c .before .before .clear .ensures))
+
+same-length-3 : tie.Need-same-length-3
+same-length-3 c = search needs
+
+returns-3 : tie.Need-returns-3
+returns-3 c = walk-told _ _ _ _ _ _ (c .before .before .before .before .before .before .before .before .before .before .before .before .before .before .before .before .before .pre .0) (c .before .before .before .before .before .before .before .before .before .before .before .before .before .before .before .before .before .pre .1) (c .before .before .before .before .before .before .before .before .before .before .before .before .before .before .before .before .before .pre .3) _ _ (c .before .before .before .before .before .before .before .before .before .before .before .before .before .before .fill-board .ensures) (c .before .before .before .before .before .before .before .before .before .before .before .fill-left .ensures) _ _ _ (c .before .before .before .before .before .before .cell .ensures) _ _ (stopped (c .before .before .before .before .enum-told3 .given .1) (c .before .before .clear2 .ensures))
+
+pub walk-list-spec : {M : Type 1} → statement M
+walk-list-spec =
+    tie.close
+    (tie.spec
+    fill-board-requires
+    fill-left-requires
+    cast-n
+    mul-n
+    cell-requires
+    enum-told
+    hand-over-requires
+    enum-told-2
+    clear-requires
+    enum-told-3
+    clear-requires-2
+    same-length
+    returns
+    same-length-2
+    returns-2
+    same-length-3
+    returns-3)
