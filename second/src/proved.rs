@@ -1,13 +1,15 @@
 //! The proved library, by its C functions. Slices pass as pointer, then length.
 
-use second::tasks::{Problem, Task};
+use second::tasks::{Problem, Task, MOST_CORES, MOST_TASKS};
 
 extern "C" {
     fn xiphomera_search(
-        numbers: *const u16,
-        numbers_length: usize,
-        rates: *const u8,
-        rates_length: usize,
+        tasks: u8,
+        offset: &[u16; MOST_TASKS],
+        work: &[u16; MOST_TASKS],
+        deadline: &[u16; MOST_TASKS],
+        period: &[u16; MOST_TASKS],
+        rates: &[[u8; MOST_CORES]; MOST_TASKS],
         cores: u8,
         engine: u8,
         limit: u32,
@@ -16,10 +18,12 @@ extern "C" {
     ) -> u64;
 
     fn xiphomera_check(
-        numbers: *const u16,
-        numbers_length: usize,
-        rates: *const u8,
-        rates_length: usize,
+        tasks: u8,
+        offset: &[u16; MOST_TASKS],
+        work: &[u16; MOST_TASKS],
+        deadline: &[u16; MOST_TASKS],
+        period: &[u16; MOST_TASKS],
+        rates: &[[u8; MOST_CORES]; MOST_TASKS],
         cores: u8,
         table: *const u8,
         table_length: usize,
@@ -38,14 +42,16 @@ const LONGEST_ANSWER: usize = 32768;
 
 /// The verdict and the tries.
 pub fn search(problem: &Problem, table: &mut [u8]) -> (u32, u32) {
-    let (numbers, rates) = lent(&problem.tasks);
-    // SAFETY: each pointer is good for the length that follows it, and only `table` is written.
+    let list = Lent::of(&problem.tasks);
+    // SAFETY: the arrays have the lengths that the library reads, and only `table` is written.
     let answer = unsafe {
         xiphomera_search(
-            numbers.as_ptr(),
-            numbers.len(),
-            rates.as_ptr(),
-            rates.len(),
+            list.tasks,
+            &list.offset,
+            &list.work,
+            &list.deadline,
+            &list.period,
+            &list.rates,
             problem.cores,
             problem.engine,
             problem.limit,
@@ -58,14 +64,16 @@ pub fn search(problem: &Problem, table: &mut [u8]) -> (u32, u32) {
 
 /// A class and three numbers: 0 valid; 1 slot, core, kind; 2 task, job, kind; 3 0, 0, refusal.
 pub fn check(problem: &Problem, table: &[u8]) -> [u16; 4] {
-    let (numbers, rates) = lent(&problem.tasks);
-    // SAFETY: each pointer is good for the length that follows it, and nothing is written.
+    let list = Lent::of(&problem.tasks);
+    // SAFETY: the arrays have the lengths that the library reads, and nothing is written.
     let answer = unsafe {
         xiphomera_check(
-            numbers.as_ptr(),
-            numbers.len(),
-            rates.as_ptr(),
-            rates.len(),
+            list.tasks,
+            &list.offset,
+            &list.work,
+            &list.deadline,
+            &list.period,
+            &list.rates,
             problem.cores,
             table.as_ptr(),
             table.len(),
@@ -84,11 +92,30 @@ pub fn plan_text(text: &[u8]) -> Vec<u8> {
     out
 }
 
-/// The numbers O, C, D, T and the rates of all tasks, four and four a task.
-fn lent(tasks: &[Task]) -> (Vec<u16>, Vec<u8>) {
-    let numbers = |task: &Task| [task.offset, task.work, task.deadline, task.period];
-    (
-        tasks.iter().flat_map(numbers).collect(),
-        tasks.iter().flat_map(|task| task.rates).collect(),
-    )
+/// A list as the library takes it: each number in an array of its own; any count above 16 stands for too many.
+#[derive(Default)]
+struct Lent {
+    tasks: u8,
+    offset: [u16; MOST_TASKS],
+    work: [u16; MOST_TASKS],
+    deadline: [u16; MOST_TASKS],
+    period: [u16; MOST_TASKS],
+    rates: [[u8; MOST_CORES]; MOST_TASKS],
+}
+
+impl Lent {
+    fn of(tasks: &[Task]) -> Lent {
+        let mut list = Lent {
+            tasks: tasks.len().min(MOST_TASKS + 1) as u8,
+            ..Lent::default()
+        };
+        for (i, task) in tasks.iter().take(MOST_TASKS).enumerate() {
+            list.offset[i] = task.offset;
+            list.work[i] = task.work;
+            list.deadline[i] = task.deadline;
+            list.period[i] = task.period;
+            list.rates[i] = task.rates;
+        }
+        list
+    }
 }

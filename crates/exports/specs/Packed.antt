@@ -1,0 +1,17 @@
+-- What the exported functions are handed and what they answer, as the definitions have it.
+-- Assumes nothing.
+use Prim.Native.Nat.{ℕ, _+_, _*_, _^_}
+use mathlib.Core.Path.{_≡_}
+use mathlib.Core.List.{List}
+use Rattle.tasks.specs.declared.TaskList.{TaskList}
+use Rattle.rules.specs.Search.{Searched}
+
+-- a list as numbers, from its arrays
+abbrev pub listed : ℕ → List ℕ → List ℕ → List ℕ → List ℕ → List ℕ → TaskList
+listed n offset work deadline period rates =
+    record { n = n; offset = offset; work = work; deadline = deadline; period = period; rates = rates }
+
+-- a search, told as one number, verdict × 2^32 + tries, and its buffer
+pub record SearchedAs (r : ℕ) (buffer : List ℕ) (s : Searched) : Type 0 where
+  pub answer : r ≡ s .verdict * 2 ^ 32 + s .tries
+  pub left : buffer ≡ s .buffer
