@@ -9,6 +9,7 @@ pub mod frames;
 pub mod lists;
 pub mod player;
 pub mod random;
+pub mod same_walk;
 pub mod tasks;
 pub mod verdict;
 pub mod walk;

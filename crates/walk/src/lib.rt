@@ -240,7 +240,7 @@ pub fn cell(
 }
 
 // After a core: the next core; after the last, where no job is starved, the next slot; after the last slot the table is found.
-pub fn close_slot(
+fn close_slot(
     table: &mut [u8; 4096],
     left: &mut [u16; 32768],
     board: &[u16; 16483],

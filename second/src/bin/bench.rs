@@ -1,4 +1,5 @@
-//! Times the proved walk and this program's walk over the same lists, in one process.
+//! Times the proved walk, the same walk in ordinary Rust, and this program's own walk, which is laid
+//! out another way for speed, over the same lists in one process.
 
 #[path = "../proved.rs"]
 #[allow(dead_code)] // only the search is timed
@@ -7,7 +8,7 @@ mod proved;
 use second::random::Random;
 use second::tasks::{Problem, Task, MOST_CELLS, MOST_CORES, MOST_SLOTS, MOST_TASKS};
 use second::verdict::Ending;
-use second::walk::search;
+use second::{same_walk, walk};
 use std::array::from_fn;
 use std::hint::black_box;
 use std::thread;
@@ -29,7 +30,12 @@ const LONG: usize = MOST_SLOTS;
 /// Searches, and gives the verdict and the tries.
 type Walk = fn(&Problem, &mut [u8]) -> (u32, u32);
 
-const WALKS: [Walk; 2] = [ordinary, proved::search];
+const WALKS: [Walk; 3] = [same, proved::search, fastest];
+const NAMES: [&str; 3] = [
+    "the same walk in ordinary Rust",
+    "the proved walk",
+    "the other layout",
+];
 
 /// Makes a list by its number, with H as given.
 type Maker = fn(u64, usize) -> Problem;
@@ -40,11 +46,13 @@ fn main() {
     println!("What a search itself allocates, sets up or clears is inside the time.");
 
     let endings = [Ending::Found, Ending::None, Ending::Stopped];
-    let [ordinary, proved] = cost(&timed(&endings.map(mixed_lists).concat()));
+    let all = cost(&timed(&endings.map(mixed_lists).concat()));
     println!("ns per try, 3 to 16 tasks, 1 to 4 cores, both engines,");
     println!("{LISTS} lists with a table, {LISTS} without, {LISTS} stopped:");
-    println!("  ordinary {ordinary:.2}, proved {proved:.2}");
-    println!("  proved / ordinary {:.2}", proved / ordinary);
+    for (name, cost) in NAMES.into_iter().zip(all) {
+        println!("  {name} {cost:.2}");
+    }
+    println!("  ratio, proved / same {:.2}", all[1] / all[0]);
 
     let makers = [
         ("stretched", stretched as Maker),
@@ -57,7 +65,7 @@ fn main() {
         let all = timed(&lists);
         let (short, long) = (cost(&all[..LISTS]), cost(&all[LISTS..]));
         println!("ns per try, {LISTS} lists at H = {SHORT} and {how} to H = {LONG}, all stopped:");
-        for (walk, name) in ["ordinary", "proved"].into_iter().enumerate() {
+        for (walk, name) in NAMES.into_iter().enumerate() {
             let (short, long) = (short[walk], long[walk]);
             println!(
                 "  {name} {short:.2} and {long:.2}, ratio {:.2}",
@@ -66,32 +74,39 @@ fn main() {
         }
     }
 
-    let [ordinary, proved] = WALKS.map(stack_taken);
     println!("bytes of stack for a table of {MOST_CELLS} cells:");
-    println!("  ordinary {ordinary}, proved {proved}");
+    for (name, stack) in NAMES.into_iter().zip(WALKS.map(stack_taken)) {
+        println!("  {name} {stack}");
+    }
 }
 
-fn ordinary(problem: &Problem, table: &mut [u8]) -> (u32, u32) {
-    let outcome = search(problem, table).expect("the list is sound");
+fn same(problem: &Problem, table: &mut [u8]) -> (u32, u32) {
+    let (ending, tries) = same_walk::search(problem, table);
+    (ending as u32, tries)
+}
+
+fn fastest(problem: &Problem, table: &mut [u8]) -> (u32, u32) {
+    let outcome = walk::search(problem, table).expect("the list is sound");
     (outcome.ending as u32, outcome.tries)
 }
 
 /// The tries of a list, and the least time of each walk.
 struct Timed {
     tries: u32,
-    least: [Duration; 2],
+    least: [Duration; 3],
 }
 
-/// Times both walks over lists. Each round goes over all of them, so that they share good times and
+/// Times the walks over lists. Each round goes over all of them, so that they share good times and
 /// bad.
 fn timed(lists: &[Problem]) -> Vec<Timed> {
     let mut table = vec![0; MOST_CELLS];
     let warm_up = |problem| {
-        let [ordinary, proved] = WALKS.map(|walk| walk(problem, &mut table));
-        assert_eq!(ordinary, proved, "both walks end alike");
+        let [same, proved, fastest] = WALKS.map(|walk| walk(problem, &mut table));
+        assert_eq!(same, proved, "the walks end alike");
+        assert_eq!(same, fastest, "the walks end alike");
         Timed {
-            tries: ordinary.1,
-            least: [Duration::MAX; 2],
+            tries: same.1,
+            least: [Duration::MAX; 3],
         }
     };
     let mut all: Vec<Timed> = lists.iter().map(warm_up).collect();
@@ -109,7 +124,7 @@ fn timed(lists: &[Problem]) -> Vec<Timed> {
 }
 
 /// Nanoseconds per try of each walk, over all these lists together.
-fn cost(all: &[Timed]) -> [f64; 2] {
+fn cost(all: &[Timed]) -> [f64; 3] {
     let tries: u32 = all.iter().map(|timed| timed.tries).sum();
     from_fn(|walk| {
         let time: Duration = all.iter().map(|timed| timed.least[walk]).sum();
@@ -140,7 +155,7 @@ fn stopped_lists(make: Maker, slots: usize) -> Vec<Problem> {
 }
 
 fn ends(problem: &Problem, ending: Ending) -> bool {
-    let (verdict, tries) = ordinary(problem, &mut [0; MOST_CELLS]);
+    let (verdict, tries) = fastest(problem, &mut [0; MOST_CELLS]);
     verdict == ending as u32 && tries >= LEAST_TRIES
 }
 
