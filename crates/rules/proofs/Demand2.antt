@@ -9,7 +9,7 @@ use mathlib.Core.List.{List, [], _++_}
 use lib.ListN.{length, take, drop, replicate, take-append-drop}
 use Rattle.laws.proofs.SumLaws.{lt-or-ge}
 use Rattle.tasks.specs.declared.Task.{Task}
-use Rattle.tasks.specs.Refusal.{refusal}
+use Rattle.tasks.specs.Refusal.{IsSound}
 use Rattle.tasks.specs.Instance.{Instance, Regular}
 use Rattle.table.specs.Table.{cells, Table}
 use Rattle.rules.specs.Walk.{Result, found, none, tries, ended, stopped, limited}
@@ -21,7 +21,7 @@ use Rattle.rules.proofs.Skip.{quicker-right}
 use Rattle.rules.proofs.Plain.{clean-table, table-clean, plain-right}
 use Rattle.rules.proofs.Quick.{quick-same}
 use Rattle.rules.proofs.Only.{first-one}
-use Rattle.rules.proofs.Told.{over-take, over-drop, zeros-take, zeros-drop, search-told}
+use Rattle.rules.proofs.Told.{over-take, over-drop, zeros-take, zeros-drop, search-told, own-regular}
 
 -- ---- statements
 -- the walks of an instance
@@ -108,10 +108,10 @@ module _ (P : Instance) (b : ℕ) (buffer : List ℕ) where
   told-searches r h = ⊎-elim (λ l. rw (past b r l) (stopped-searches r l)) (λ l. rw (within b r l) (ended-searches r h l)) (lt-or-ge b (tries r))
 
 -- the search of every sound list, by either engine, with any limit, into a buffer that is long enough
-pub searches : (m : ℕ) (ts : List Task) (e b : ℕ) (buffer : List ℕ) → refusal m ts ≡ 0 → e ≤ 1 → cells (ownInstance m ts) ≤ length buffer
-    → Regular (ownInstance m ts) → Searches (ownInstance m ts) (walked e (ownInstance m ts)) b buffer (search m ts e b buffer)
-searches m ts e b buffer sound engine room regular = rw (search-told m ts e b buffer sound engine room)
-    (told-searches (ownInstance m ts) b buffer (walked e (ownInstance m ts)) (walks (ownInstance m ts) regular .walked-right e))
+pub searches : (m : ℕ) (ts : List Task) (e b : ℕ) (buffer : List ℕ) → IsSound m ts → e ≤ 1 → cells (ownInstance m ts) ≤ length buffer
+    → Searches (ownInstance m ts) (walked e (ownInstance m ts)) b buffer (search m ts e b buffer)
+searches m ts e b buffer sound engine room = rw (search-told m ts e b buffer sound engine room)
+    (told-searches (ownInstance m ts) b buffer (walked e (ownInstance m ts)) (walks (ownInstance m ts) (own-regular m ts sound) .walked-right e))
 
 -- ---- one answer
 module _ (P : Instance) (r : Result) (b : ℕ) (buffer : List ℕ) (s s' : Searched) (h : Searches P r b buffer s) (h' : Searches P r b buffer s') where

@@ -9,7 +9,7 @@ use mathlib.Core.List.{List, []}
 use lib.ListN.{length}
 use Rattle.laws.proofs.SumLaws.{lt-or-ge}
 use Rattle.tasks.specs.declared.Task.{Task}
-use Rattle.tasks.specs.Refusal.{refusal}
+use Rattle.tasks.specs.Refusal.{IsSound}
 use Rattle.tasks.specs.Instance.{Instance, Regular}
 use Rattle.table.specs.Table.{cells}
 use Rattle.rules.specs.Walk.{Result, tries, ended, stopped, limited}
@@ -19,7 +19,7 @@ use Rattle.rules.specs.Limit.{bwalk}
 use Rattle.rules.specs.Search.{ruleOf, walked, Searched, told, search}
 use Rattle.rules.proofs.Limit.{within, past, bwalk-limited}
 use Rattle.rules.proofs.Quick.{quick-same}
-use Rattle.rules.proofs.Told.{ended-verdict, ended-tries, ended-same, ended-buffer, search-told}
+use Rattle.rules.proofs.Told.{ended-verdict, ended-tries, ended-same, ended-buffer, search-told, own-regular}
 
 -- ---- statements
 -- the two walks of an instance
@@ -96,8 +96,7 @@ module _ (n : ℕ) (buffer : List ℕ) (b : ℕ) (r' r : Result) (q : Quicker r'
       (lt-or-ge b (tries r'))
 
 -- the searches of every sound list, with any limit, into a buffer that is long enough
-pub agree : (m : ℕ) (ts : List Task) (b : ℕ) (buffer : List ℕ) → refusal m ts ≡ 0 → cells (ownInstance m ts) ≤ length buffer
-    → Regular (ownInstance m ts)
+pub agree : (m : ℕ) (ts : List Task) (b : ℕ) (buffer : List ℕ) → IsSound m ts → cells (ownInstance m ts) ≤ length buffer
     → Agree (walked 1 (ownInstance m ts)) (walked 0 (ownInstance m ts)) b (search m ts 1 b buffer) (search m ts 0 b buffer)
-agree m ts b buffer sound room regular = rw (search-told m ts 1 b buffer sound (omega arith) room, search-told m ts 0 b buffer sound (omega arith) room)
-    (told-agree (cells (ownInstance m ts)) buffer b (walked 1 (ownInstance m ts)) (walked 0 (ownInstance m ts)) (compared (ownInstance m ts) regular .quick-same))
+agree m ts b buffer sound room = rw (search-told m ts 1 b buffer sound (omega arith) room, search-told m ts 0 b buffer sound (omega arith) room)
+    (told-agree (cells (ownInstance m ts)) buffer b (walked 1 (ownInstance m ts)) (walked 0 (ownInstance m ts)) (compared (ownInstance m ts) (own-regular m ts sound) .quick-same))

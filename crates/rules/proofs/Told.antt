@@ -10,7 +10,9 @@ use lib.Seq.{take-at, drop-at}
 use borrow.Author.Tests.{le-leb}
 use Rattle.laws.specs.Lists.{over}
 use Rattle.tasks.specs.declared.Task.{Task}
-use Rattle.tasks.specs.Refusal.{unless, orNext, refusal}
+use Rattle.tasks.specs.Refusal.{unless, orNext, refusal, IsSound}
+use Rattle.tasks.specs.Instance.{Regular}
+use Rattle.tasks.proofs.SoundLaws.{sound-list, length-whole, instance-regular}
 use Rattle.table.specs.Table.{cells}
 use Rattle.rules.specs.Walk.{Result, found, none, tries, ended, limited}
 use Rattle.rules.specs.Right.{ownInstance, Quicker}
@@ -68,3 +70,7 @@ pub search-told : (m : ℕ) (ts : List Task) (e b : ℕ) (buffer : List ℕ) →
     → search m ts e b buffer ≡ told (cells (ownInstance m ts)) buffer (limited b (walked e (ownInstance m ts)))
 unfolding search searchRefusal unless orNext
 search-told m ts e b buffer sound engine room = rw (sound, le-leb e 1 engine, le-leb (cells (ownInstance m ts)) (length buffer) room)
+
+-- the instance of a sound list is regular
+pub own-regular : (m : ℕ) (ts : List Task) → IsSound m ts → Regular (ownInstance m ts)
+own-regular m ts sound = let s = sound-list m ts sound in instance-regular s (length-whole s)
