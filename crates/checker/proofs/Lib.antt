@@ -1,0 +1,5 @@
+pub mod FaultLaws
+pub mod CellLaws
+pub mod ScanLaws
+pub mod CountLaws
+pub mod TellLaws
