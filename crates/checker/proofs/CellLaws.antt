@@ -1,6 +1,6 @@
 -- What the code finds in a cell is what the definitions say of it; and which numbers fit, where no refusal stands in the way.
 -- Assumes nothing.
-use Prim.Native.Nat.{ℕ, zero, suc, pred, _+_, _*_, _-_, _/_, _≤_, _<_}
+use Prim.Native.Nat.{ℕ, zero, suc, pred, _+_, _*_, _-_, _≤_, _<_}
 use native.Mathlib.Nat.{mul-le-mul, mul-le-mul-right, div-le-self}
 use native.Mathlib.Omega.{arith}
 use mathlib.Core.Path.{_≡_, refl, sym, ap, subst, _∙_}
@@ -9,26 +9,24 @@ use mathlib.Core.Bool.{Bool, true, false, not}
 use mathlib.Core.List.{List}
 use lib.Dec.{T, eqb}
 use lib.Arith.{digits-div, digits-mod}
-use lib.ListN.{length}
-use borrow.Author.Tests.{not-true, not-false}
+use borrow.Author.Tests.{eq-eqb, ne-eqb, not-true, not-false}
 use Rattle.laws.specs.Lists.{nth}
 use Rattle.laws.specs.Tests.{all}
+use Rattle.laws.proofs.TestLaws.{all-false, all-true}
 use Rattle.tasks.specs.declared.Task.{Task}
 use Rattle.tasks.specs.declared.TaskList.{TaskList}
 use Rattle.tasks.specs.declared.Work.{Work}
 use Rattle.tasks.specs.declared.Window.{Window}
 use Rattle.tasks.specs.declared.Window.the-variants.{Open, Closed}
 use Rattle.tasks.specs.Task.{workIn, rate, task, taskAt, rows}
-use Rattle.tasks.specs.Refusal.{tableLength}
 use Rattle.tasks.specs.Window.{openIf, windowAt}
 use Rattle.tasks.specs.Instance.{Instance, instanceOf, Regular}
 use Rattle.tasks.proofs.SoundLaws.{rows-length, rows-task, InRange, SoundList, sound-list, length-whole, instance-regular}
 use Rattle.table.specs.Table.{cells, slotOf, coreOf, free}
 use Rattle.table.specs.Fault.{cellKind}
-use Rattle.checker.specs.declared.Effect.{Effect}
 use Rattle.checker.specs.declared.Effect.the-variants.{Nothing, Does, Faulty}
-use Rattle.checker.specs.Checks.{instanceFor, Ready, At, freeIn, counterOf, effectIf, effectOf}
-use Rattle.checker.proofs.FaultLaws.{after, kind-idle, kind-unknown, kind-closed, kind-unrated, kind-twice, kind-none}
+use Rattle.checker.specs.Checks.{instanceFor, Ready, At, freeIn, counterOf, effectOf}
+use Rattle.checker.proofs.FaultLaws.{after, kind-unknown, kind-closed, kind-unrated, kind-twice, kind-none}
 
 -- ---- what fits
 -- an instance of at most 16 tasks, 4096 cells, 1024 jobs a task, and rates up to 15
@@ -86,6 +84,17 @@ module _ {list : TaskList} {m h : ℕ} {t : List ℕ} (ready : Ready list m h t)
     few-jobs = λ i. omega (arith, div-le-self h (task (rows list) i .period .0), few-slots);
     few-units = λ i j x l q. listed .in-range i x l .rate-le j (omega (arith, few-cores));
   }
+
+-- ---- a task in its slot
+-- it stands on an earlier core
+pub free-not : (t : List ℕ) (first core v j : ℕ) → j < core → nth t (first + j) ≡ v → false ≡ freeIn t first core v
+unfolding freeIn
+free-not t first core v j l e = sym (all-false core _ j l (ap not (eq-eqb (nth t (first + j)) v e)))
+
+-- it stands on none
+pub free-yes : (t : List ℕ) (first core v : ℕ) → ((k : ℕ) → k < core → nth t (first + k) ≡ v → ⊥) → true ≡ freeIn t first core v
+unfolding freeIn
+free-yes t first core v none = sym (all-true core _ (λ k l. ap not (ne-eqb (nth t (first + k)) v (none k l))))
 
 -- ---- the effect of a cell
 module _ (P : Instance) (f : ℕ → ℕ) (c : ℕ) where

@@ -1,18 +1,16 @@
--- What the answers of the parts are by the definitions: a task that is free in its slot, and the first faulty job by the counters.
+-- The first faulty job by the counters: the work of one job, the jobs of a task, and the tasks.
 -- Assumes nothing.
-use Prim.Native.Nat.{ℕ, suc, _+_, _*_, _/_, _≤_, _<_}
+use Prim.Native.Nat.{ℕ, suc, _+_, _/_, _≤_, _<_}
 use native.Mathlib.Nat.{div-le-self}
 use native.Mathlib.Numerals.{add-one}
 use native.Mathlib.Omega.{arith}
 use mathlib.Core.Path.{_≡_, sym, ap, subst, _∙_}
 use mathlib.Core.Logic.{_≢_}
-use mathlib.Core.Bool.{true, false, not}
 use mathlib.Core.List.{List}
 use lib.ListN.{length}
-use borrow.Author.Tests.{le-leb, lt-leb, lt-ltb, le-ltb, eq-eqb, ne-eqb}
-use Rattle.laws.specs.Lists.{nth, seek, firstOf}
+use borrow.Author.Tests.{le-leb, lt-leb, lt-ltb, le-ltb}
+use Rattle.laws.specs.Lists.{seek, firstOf}
 use Rattle.laws.proofs.SumLaws.{gate-lt, gate-ge}
-use Rattle.laws.proofs.TestLaws.{all-false, all-true}
 use Rattle.laws.proofs.ListLaws.{seek-is, seek-none, seek-some}
 use Rattle.tasks.specs.declared.Task.{Task}
 use Rattle.tasks.specs.declared.TaskList.{TaskList}
@@ -21,18 +19,7 @@ use Rattle.tasks.specs.Refusal.{unless, Periods}
 use Rattle.tasks.proofs.SoundLaws.{rows-length, rows-task}
 use Rattle.table.specs.Fault.{checked, inJob}
 use Rattle.checker.specs.declared.Verdict.the-variants.{Valid, Job}
-use Rattle.checker.specs.Checks.{toldOf, freeIn, workKind, countedKind, firstJob, jobFaultIn}
-
--- ---- a task in its slot
--- it stands on an earlier core
-pub free-not : (t : List ℕ) (first core v j : ℕ) → j < core → nth t (first + j) ≡ v → false ≡ freeIn t first core v
-unfolding freeIn
-free-not t first core v j l e = sym (all-false core _ j l (ap not (eq-eqb (nth t (first + j)) v e)))
-
--- it stands on none
-pub free-yes : (t : List ℕ) (first core v : ℕ) → ((k : ℕ) → k < core → nth t (first + k) ≡ v → ⊥) → true ≡ freeIn t first core v
-unfolding freeIn
-free-yes t first core v none = sym (all-true core _ (λ k l. ap not (ne-eqb (nth t (first + k)) v (none k l))))
+use Rattle.checker.specs.Checks.{toldOf, workKind, countedKind, firstJob, jobFaultIn}
 
 -- ---- the work of a job
 -- too little

@@ -3,19 +3,20 @@
 use Prim.Native.Nat.{ℕ, zero, suc, pred, _≤_, _<_}
 use native.Mathlib.Decide.{ℕ-discrete}
 use native.Mathlib.Omega.{arith}
-use mathlib.Core.Path.{_≡_, refl, sym, ap, _∙_}
+use mathlib.Core.Path.{_≡_, refl, sym, _∙_}
 use mathlib.Core.Logic.{_≢_, _⊎_, inl, inr, ⊎-elim}
 use mathlib.Core.Bool.{Bool, true, false, not}
-use lib.Dec.{T, leb, ltb, eqb, leb→le, ltb→lt, le→leb, lt→ltb, eqb→eq, not-T}
+use lib.Dec.{T, leb, ltb, eqb, leb→le, ltb→lt, le→leb, lt→ltb, eqb→eq}
 use borrow.Author.Tests.{lt-ltb, le-ltb}
 use Rattle.laws.specs.Lists.{seek, firstOf}
 use Rattle.laws.proofs.SumLaws.{lt-or-ge}
 use Rattle.laws.proofs.TestLaws.{all-fails}
-use Rattle.laws.proofs.ListLaws.{seek-before, seek-le, seek-some, seek-none, first-none, first-zero}
+use Rattle.laws.proofs.ListLaws.{seek-before, seek-some, first-none, first-zero}
 use Rattle.tasks.specs.Refusal.{unless}
 use Rattle.tasks.specs.Instance.{Instance}
 use Rattle.table.specs.Table.{cells, slotOf, coreOf, beside, done, free, Valid}
-use Rattle.table.specs.Fault.{kindOf, cellKind, jobKind, Fault, noFault, inCell, inJob, faultIf, jobFault, fault}
+use Rattle.table.specs.Fault.{kindOf, cellKind, jobKind, Fault, noFault, inCell, inJob, jobFault, fault}
+use Rattle.checker.specs.Faulty.{Fine, Wrong, unknown, closed, unrated, twice, Exact, WrongWork, too-little, too-much, FirstCell, FirstJob}
 use Rattle.table.proofs.TableLaws.{beside-before, beside-slot, make-free, free-apart}
 
 -- ---- one test
@@ -43,21 +44,6 @@ after (suc v) x = refl
 
 module _ (P : Instance) (f : ℕ → ℕ) where
   -- ---- cells
-  -- cell c has no fault: it is 0 or a task number; its task is open there, has a positive rate, and stands on no earlier core of the slot
-  pub record Fine (c : ℕ) : Type 0 where
-    pub known : f c ≤ P .tasks
-    pub open-there : f c ≢ 0 → T (P .opens (f c) (slotOf P c))
-    pub rated : f c ≢ 0 → 0 < P .rate (f c) (coreOf P c)
-    pub once : f c ≢ 0 → T (free P c f (f c))
-
-  -- what each kind says of cell c, the tests before it being passed
-  pub data Wrong (c : ℕ) : ℕ → Type 0 where
-    unknown : P .tasks < f c → Wrong c 1
-    closed : f c ≢ 0 → f c ≤ P .tasks → (T (P .opens (f c) (slotOf P c)) → ⊥) → Wrong c 2
-    unrated : f c ≢ 0 → f c ≤ P .tasks → T (P .opens (f c) (slotOf P c)) → P .rate (f c) (coreOf P c) ≡ 0 → Wrong c 3
-    twice : f c ≢ 0 → f c ≤ P .tasks → T (P .opens (f c) (slotOf P c)) → 0 < P .rate (f c) (coreOf P c)
-        → (d : ℕ) → d < c → slotOf P d ≡ slotOf P c → f d ≡ f c → Wrong c 4
-
   -- an idle cell has no fault
   pub kind-idle : (c : ℕ) → f c ≡ 0 → cellKind P f c ≡ 0
   unfolding cellKind
@@ -103,8 +89,8 @@ module _ (P : Instance) (f : ℕ → ℕ) where
 
   -- a cell has no fault, or the fault of its kind
   data Sorted (c : ℕ) : ℕ → Type 0 where
-    fine : Fine c → Sorted c 0
-    wrong : (k : ℕ) → Wrong c (suc k) → Sorted c (suc k)
+    fine : Fine P f c → Sorted c 0
+    wrong : (k : ℕ) → Wrong P f c (suc k) → Sorted c (suc k)
 
   -- a task that is not free stands on an earlier core
   not-free : (some-core : 0 < P .cores) (c v : ℕ) → (T (free P c f v) → ⊥) → (d : ℕ) × (d < c) × (slotOf P d ≡ slotOf P c) × (f d ≡ v)
@@ -127,7 +113,7 @@ module _ (P : Instance) (f : ℕ → ℕ) where
           (λ o. elim (ℕ-discrete (P .rate (f c) (coreOf P c)) 0) [
             | yes z ↦ rw (kind-unrated c x k o z) (wrong 2 (unrated x k o z))
             | no s ↦ ⊎-elim
-                (λ y. rw (kind-none c x k o (omega arith) y) (fine (record { known = k; open-there = λ _. o; rated = λ _. omega arith; once = λ _. y })))
+                (λ y. rw (kind-none c x k o (omega arith) y) (fine (record { known = k; open-there = λ _. o; rated = λ _. omega arith; once = λ _. free-apart P c f (f c) y })))
                 (λ n. let d = not-free some-core c (f c) n in
                 rw (kind-twice c x k o (omega arith) n) (wrong 3 (twice x k o (omega arith) (d .0) (d .1) (d .2) (d .3))))
                 (tested (free P c f (f c)))
@@ -138,41 +124,32 @@ module _ (P : Instance) (f : ℕ → ℕ) where
     ]
 
     -- a cell of kind 0 has no fault
-    pub kind-fine : cellKind P f c ≡ 0 → Fine c
+    pub kind-fine : cellKind P f c ≡ 0 → Fine P f c
     kind-fine = go sorted
       where
-        go : {k : ℕ} → Sorted c k → k ≡ 0 → Fine c
+        go : {k : ℕ} → Sorted c k → k ≡ 0 → Fine P f c
         go (fine r) e = r
         go (wrong k w) e = absurd (omega arith)
 
     -- a cell of another kind has that fault
-    pub kind-wrong : cellKind P f c ≢ 0 → Wrong c (cellKind P f c)
+    pub kind-wrong : cellKind P f c ≢ 0 → Wrong P f c (cellKind P f c)
     kind-wrong = go sorted
       where
-        go : {k : ℕ} → Sorted c k → k ≢ 0 → Wrong c k
+        go : {k : ℕ} → Sorted c k → k ≢ 0 → Wrong P f c k
         go (fine r) x = absurd (x refl)
         go (wrong k w) x = w
 
     -- and the other way
-    pub fine-kind : Fine c → cellKind P f c ≡ 0
+    pub fine-kind : Fine P f c → cellKind P f c ≡ 0
     fine-kind r = elim (ℕ-discrete (f c) 0) [
       | yes e ↦ kind-idle c e
-      | no x ↦ kind-none c x (r .known) (r .open-there x) (r .rated x) (r .once x)
+      | no x ↦ kind-none c x (r .known) (r .open-there x) (r .rated x) (make-free P c f (f c) some-core (r .once x))
     ]
 
   -- ---- jobs
-  -- over the job's slots the rates of its cells add up to exactly C
-  abbrev pub Exact : ℕ → ℕ → Type 0
-  Exact i k = done P (cells P) f i k ≡ P .work i
-
-  -- what each kind says of a job
-  pub data WrongWork (i k : ℕ) : ℕ → Type 0 where
-    too-little : done P (cells P) f i k < P .work i → WrongWork i k 5
-    too-much : P .work i < done P (cells P) f i k → WrongWork i k 6
-
   -- a job has exactly its work, or the fault of its kind
   module _ (i k : ℕ) where
-    job-exact : Exact i k → jobKind P f i k ≡ 0
+    job-exact : Exact P f i k → jobKind P f i k ≡ 0
     unfolding jobKind
     job-exact e = passes _ 5 _ (le→leb (P .work i) (done P (cells P) f i k) (omega arith)) ∙ passes _ 6 0 (le→leb (done P (cells P) f i k) (P .work i) (omega arith))
 
@@ -184,13 +161,13 @@ module _ (P : Instance) (f : ℕ → ℕ) where
     unfolding jobKind
     job-much l = passes _ 5 _ (le→leb (P .work i) (done P (cells P) f i k) (omega arith)) ∙ fails _ 6 0 (λ t. let h = leb→le (done P (cells P) f i k) (P .work i) t in omega arith)
 
-    exact-job : jobKind P f i k ≡ 0 → Exact i k
+    exact-job : jobKind P f i k ≡ 0 → Exact P f i k
     exact-job e = ⊎-elim
         (λ l. absurd (omega (arith, job-little l)))
         (λ l. ⊎-elim (λ m. absurd (omega (arith, job-much m))) (λ m. omega arith) (lt-or-ge (P .work i) (done P (cells P) f i k)))
         (lt-or-ge (done P (cells P) f i k) (P .work i))
 
-    job-wrong : jobKind P f i k ≢ 0 → WrongWork i k (jobKind P f i k)
+    job-wrong : jobKind P f i k ≢ 0 → WrongWork P f i k (jobKind P f i k)
     job-wrong x = ⊎-elim
         (λ l. rw (job-little l) (too-little l))
         (λ l. ⊎-elim (λ m. rw (job-much m) (too-much m)) (λ m. absurd (x (job-exact (omega arith)))) (lt-or-ge (P .work i) (done P (cells P) f i k)))
@@ -199,55 +176,36 @@ module _ (P : Instance) (f : ℕ → ℕ) where
   -- ---- the first fault
   -- no cell and no job is faulty
   pub record NoneFaulty : Type 0 where
-    pub cells-fine : (c : ℕ) → c < cells P → Fine c
-    pub jobs-exact : (i k : ℕ) → i ≢ 0 → i ≤ P .tasks → k < P .jobs i → Exact i k
-
-  -- slot s, core j (from 1): its cell has the fault of this kind, and no earlier cell has one
-  pub record FirstCell (s j kind : ℕ) : Type 0 where
-    pub cell : ℕ
-    pub inside : cell < cells P
-    pub slot-is : s ≡ slotOf P cell
-    pub core-is : j ≡ suc (coreOf P cell)
-    pub is-wrong : Wrong cell kind
-    pub fine-before : (d : ℕ) → d < cell → Fine d
-
-  -- no cell is faulty; job k of task i has the fault of this kind, and no earlier job has one, by task and job number
-  pub record FirstJob (i k kind : ℕ) : Type 0 where
-    pub cells-fine : (c : ℕ) → c < cells P → Fine c
-    pub some-task : i ≢ 0
-    pub task-in : i ≤ P .tasks
-    pub job-in : k < P .jobs i
-    pub is-wrong : WrongWork i k kind
-    pub tasks-before : (j l : ℕ) → j ≢ 0 → j < i → l < P .jobs j → Exact j l
-    pub jobs-before : (l : ℕ) → l < k → Exact i l
+    pub cells-fine : (c : ℕ) → c < cells P → Fine P f c
+    pub jobs-exact : (i k : ℕ) → i ≢ 0 → i ≤ P .tasks → k < P .jobs i → Exact P f i k
 
   -- what a fault that is named says
-  pub data Named : Fault → Type 0 where
-    none : NoneFaulty → Named noFault
-    cell : {s j kind : ℕ} → FirstCell s j kind → Named (inCell s j kind)
-    job : {i k kind : ℕ} → FirstJob i k kind → Named (inJob i k kind)
+  abbrev pub Says : Fault → Type 0
+  Says noFault = NoneFaulty
+  Says (inCell s j kind) = FirstCell P f s j kind
+  Says (inJob i k kind) = FirstJob P f i k kind
 
   -- the first faulty job, where no cell is faulty
-  module _ (all-fine : (c : ℕ) → c < cells P → Fine c) where
+  module _ (all-fine : (c : ℕ) → c < cells P → Fine P f c) where
     -- the first fault of the jobs of the task after j
     row : ℕ → ℕ
     row j = firstOf (P .jobs (suc j)) (jobKind P f (suc j))
 
     -- no job of an earlier task is faulty
-    rows-exact : (i : ℕ) → i ≤ seek (P .tasks) row → (j l : ℕ) → j ≢ 0 → j ≤ i → l < P .jobs j → Exact j l
+    rows-exact : (i : ℕ) → i ≤ seek (P .tasks) row → (j l : ℕ) → j ≢ 0 → j ≤ i → l < P .jobs j → Exact P f j l
     unfolding row
     rows-exact i h zero l x m q = absurd (x refl)
     rows-exact i h (suc j) l x m q =
         exact-job (suc j) l (first-zero (P .jobs (suc j)) (jobKind P f (suc j)) (seek-before (P .tasks) row j (omega arith)) l q)
 
-    job-named : Named (jobFault P f)
+    job-named : Says (jobFault P f)
     unfolding jobFault row
     job-named = ⊎-elim
-        (λ l. rw (lt-ltb (seek (P .tasks) row) (P .tasks) l) (job (found l)))
-        (λ l. rw (le-ltb (seek (P .tasks) row) (P .tasks) l) (none (record {
+        (λ l. rw (lt-ltb (seek (P .tasks) row) (P .tasks) l) (found l))
+        (λ l. rw (le-ltb (seek (P .tasks) row) (P .tasks) l) (record {
           cells-fine = all-fine;
           jobs-exact = λ i k x m q. rows-exact i (omega arith) i k x (omega arith) q;
-        })))
+        }))
         (lt-or-ge (seek (P .tasks) row) (P .tasks))
       where
         i : ℕ
@@ -259,7 +217,7 @@ module _ (P : Instance) (f : ℕ → ℕ) where
         some : i < P .tasks → k < P .jobs (suc i)
         some h = ⊎-elim (λ l. l) (λ l. absurd (seek-some (P .tasks) row h (first-none (P .jobs (suc i)) (jobKind P f (suc i)) (λ j q. seek-before (P .jobs (suc i)) (jobKind P f (suc i)) j (omega arith))))) (lt-or-ge k (P .jobs (suc i)))
 
-        found : i < P .tasks → FirstJob (suc i) k (jobKind P f (suc i) k)
+        found : i < P .tasks → FirstJob P f (suc i) k (jobKind P f (suc i) k)
         found h = record {
           cells-fine = all-fine;
           some-task = λ z. omega arith;
@@ -271,22 +229,40 @@ module _ (P : Instance) (f : ℕ → ℕ) where
         }
 
   -- the fault that the definition names
-  pub named : 0 < P .cores → Named (fault P f)
+  pub named : 0 < P .cores → Says (fault P f)
   unfolding fault
   named some-core = ⊎-elim
-      (λ l. rw (lt-ltb c (cells P) l) (cell (record {
+      (λ l. rw (lt-ltb c (cells P) l) (record {
         cell = c;
         inside = l;
         slot-is = refl;
         core-is = refl;
         is-wrong = kind-wrong some-core c (seek-some (cells P) (cellKind P f) l);
         fine-before = λ d m. kind-fine some-core d (seek-before (cells P) (cellKind P f) d m);
-      })))
+      }))
       (λ l. rw (le-ltb c (cells P) l) (job-named (λ d m. kind-fine some-core d (seek-before (cells P) (cellKind P f) d (omega arith)))))
       (lt-or-ge c (cells P))
     where
       c : ℕ
       c = seek (cells P) (cellKind P f)
+
+  -- a faulty cell has a fault
+  not-fine : {c kind : ℕ} → Wrong P f c kind → Fine P f c → ⊥
+  not-fine (unknown l) r = omega (arith, r .known)
+  not-fine (closed x k n) r = n (r .open-there x)
+  not-fine (unrated x k o z) r = omega (arith, r .rated x)
+  not-fine (twice x k o s d l q e) r = r .once x d l q e
+
+  -- a faulty job does not have exactly its work
+  not-exact : {i k kind : ℕ} → WrongWork P f i k kind → Exact P f i k → ⊥
+  not-exact (too-little l) e = omega arith
+  not-exact (too-much l) e = omega arith
+
+  -- where nothing is faulty, no fault is named
+  pub faultless : NoneFaulty → (x : Fault) → Says x → x ≡ noFault
+  faultless r noFault n = refl
+  faultless r (inCell s j kind) n = absurd (not-fine (n .is-wrong) (r .cells-fine (n .cell) (n .inside)))
+  faultless r (inJob i k kind) n = absurd (not-exact (n .is-wrong) (r .jobs-exact i k (n .some-task) (n .task-in) (n .job-in)))
 
   -- ---- valid tables
   -- a table without a fault is valid
@@ -298,21 +274,21 @@ module _ (P : Instance) (f : ℕ → ℕ) where
     once = λ c d l m x s e. elim (ℕ-discrete (f c) 0) [
       | yes z ↦ z
       | no y ↦ ⊎-elim
-          (λ q. absurd (free-apart P d f (f d) (r .cells-fine d m .once (λ z. y (e ∙ z))) c q s e))
-          (λ q. absurd (free-apart P c f (f c) (r .cells-fine c l .once y) d (omega arith) (sym s) (sym e)))
+          (λ q. absurd (r .cells-fine d m .once (λ z. y (e ∙ z)) c q s e))
+          (λ q. absurd (r .cells-fine c l .once y d (omega arith) (sym s) (sym e)))
           (lt-or-ge c d)
     ];
     full = r .jobs-exact;
   }
 
   -- and a valid one has no fault
-  pub valid-none : 0 < P .cores → Valid P f → NoneFaulty
-  valid-none some-core v = record {
+  pub valid-none : Valid P f → NoneFaulty
+  valid-none v = record {
     cells-fine = λ c l. record {
       known = v .known c l;
       open-there = v .open-there c l;
       rated = v .rated c l;
-      once = λ x. make-free P c f (f c) some-core (λ d m s e. x (v .once c d l (omega arith) (λ q. omega arith) (sym s) (sym e)));
+      once = λ x d m s e. x (v .once c d l (omega arith) (λ q. omega arith) (sym s) (sym e));
     };
     jobs-exact = v .full;
   }

@@ -3,3 +3,4 @@ pub mod CellLaws
 pub mod ScanLaws
 pub mod CountLaws
 pub mod TellLaws
+pub mod Demand2

@@ -10,8 +10,7 @@ use mathlib.Core.Logic.{_≢_}
 use mathlib.Core.Bool.{Bool, true, false, _&&_}
 use mathlib.Core.List.{List}
 use lib.Dec.{T, eqb}
-use lib.Arith.{digits-div, digits-mod}
-use lib.ListN.{length, set, length-set}
+use lib.ListN.{set, length-set}
 use lib.Seq.{getD-set-same, getD-set-other}
 use borrow.Author.Count.{below-none, below-more}
 use borrow.Author.Tests.{lt-ltb, le-ltb}
@@ -23,7 +22,7 @@ use Rattle.tasks.specs.declared.Work.{Work}
 use Rattle.tasks.specs.declared.TaskList.{TaskList}
 use Rattle.tasks.specs.Instance.{Instance, jobSlot, instanceOf}
 use Rattle.table.specs.Table.{cells, slotOf, coreOf, share, done}
-use Rattle.table.specs.Fault.{cellKind, noFault, inCell, checked}
+use Rattle.table.specs.Fault.{cellKind, inCell, checked}
 use Rattle.table.proofs.JobLaws.{slot-job}
 use Rattle.table.proofs.ShareLaws.{share-own, share-other, share-none}
 use Rattle.table.proofs.TableLaws.{slot-there}
@@ -31,7 +30,8 @@ use Rattle.checker.specs.declared.Verdict.the-variants.{Valid, Cell}
 use Rattle.checker.specs.declared.Effect.{Effect}
 use Rattle.checker.specs.declared.Effect.the-variants.{Nothing, Does, Faulty}
 use Rattle.checker.specs.Checks.{toldOf, instanceFor, Ready, At, counterOf, effectIf, effectOf, Counted, cellFault, Scanned}
-use Rattle.checker.proofs.FaultLaws.{after, Fine, kind-idle, kind-fine}
+use Rattle.checker.specs.Faulty.{Fine}
+use Rattle.checker.proofs.FaultLaws.{after, kind-idle, kind-fine}
 use Rattle.checker.proofs.CellLaws.{Small, ready-small, slot-of, core-of, cell-in}
 
 -- the first c cells have no fault, and their work is counted

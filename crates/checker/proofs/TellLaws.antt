@@ -7,7 +7,7 @@ use mathlib.Core.Path.{_≡_, refl, sym, ap, subst, _∙_}
 use mathlib.Core.Logic.{_≢_, ⊎-elim}
 use mathlib.Core.List.{List, [], _∷_}
 use lib.ListN.{length, replicate, length-replicate, getD-replicate}
-use borrow.Author.Tests.{lt-leb, le-leb, lt-ltb, le-ltb, eq-eqb, ne-eqb}
+use borrow.Author.Tests.{lt-leb, le-leb, lt-ltb, le-ltb, ne-eqb}
 use types.Run.{OneOf}
 use denote.Enum.Declared.{tagOf}
 use Rattle.laws.specs.Sum.{sum}
@@ -24,7 +24,7 @@ use Rattle.tasks.specs.Refusal.{unless, orNext, refusal, tableLength, IsSound, 
 use Rattle.tasks.specs.Instance.{Instance, instanceOf}
 use Rattle.tasks.proofs.SoundLaws.{sound-list, soundness-sound, soundness-refused}
 use Rattle.table.specs.Table.{cells, done}
-use Rattle.table.specs.Fault.{cellKind, jobKind, Fault, noFault, inCell, inJob, faultIf, jobFault, fault, Checked, refused, checked, checkedIf, check}
+use Rattle.table.specs.Fault.{cellKind, jobKind, noFault, inJob, jobFault, fault, refused, checked, checkedIf, check}
 use Rattle.checker.proofs.Verdict.{the-type}
 use Rattle.checker.specs.declared.Verdict.{Verdict}
 use Rattle.checker.specs.declared.Verdict.the-variants.{Valid, Cell, Job, Refused}

@@ -5,7 +5,7 @@ use mathlib.Core.Path.{_≡_}
 use native.Mathlib.Omega.{arith}
 use borrow.Author.Count.{below-more}
 use Rattle.laws.specs.Lists.{nth}
-use Rattle.checker.proofs.CountLaws.{free-not, free-yes}
+use Rattle.checker.proofs.CellLaws.{free-not, free-yes}
 use borrow.Author.Needs.{needs}
 use Rattle.checker.proofs.free.Statement.{statement}
 use Rattle.checker.proofs.free.Tie as tie

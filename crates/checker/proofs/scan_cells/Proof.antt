@@ -11,22 +11,22 @@ use Rattle.checker.proofs.scan_cells.Statement.{statement}
 use Rattle.checker.proofs.scan_cells.Tie as tie
 
 abbrev Inv-loop : tie.InvT-loop
-Inv-loop list len m table done₀ slot core₀ done core = (core ≤ m) × Passed (instanceFor list m (len .0)) (nth table) (slot * m + core) done
+Inv-loop list len m table done₀ slot core₀ done core = Passed (instanceFor list m (len .0)) (nth table) (slot * m + core) done × (core ≤ m)
 
 abbrev μ-loop : tie.MeasureT-loop
 μ-loop list len m table done₀ slot core₀ done core = m - core
 
 abbrev Inv-scan : tie.InvT-scan
-Inv-scan list len m table done₀ slot₀ done slot = (slot ≤ len .0) × Passed (instanceFor list m (len .0)) (nth table) (slot * m) done
+Inv-scan list len m table done₀ slot₀ done slot = Passed (instanceFor list m (len .0)) (nth table) (slot * m) done × (slot ≤ len .0)
 
 abbrev μ-scan : tie.MeasureT-scan
 μ-scan list len m table done₀ slot₀ done slot = len .0 - slot
 
 scan-holds : tie.Need-scan-holds Inv-loop μ-loop Inv-scan μ-scan
-scan-holds c = (omega arith, as-far (begins (c .before .pre .1)) (omega arith))
+scan-holds c = (as-far (begins (c .before .pre .1)) (omega arith), omega arith)
 
 loop-holds : tie.Need-loop-holds Inv-loop μ-loop Inv-scan μ-scan
-loop-holds c = (omega arith, as-far (c .before .before .scan .inv .1) (omega arith))
+loop-holds c = (as-far (c .before .before .scan .inv .0) (omega arith), omega arith)
 
 -- the cell of a turn
 at : (c : tie.In-loop Inv-loop μ-loop Inv-scan μ-scan) → At (c .before .before .before .before .before .before .args .list) (c .before .before .before .before .before .before .args .m) (c .before .before .before .before .before .before .args .len .0) (c .before .before .before .before .before .before .args .table .now) (c .before .before .before .before .scan .slot) (c .before .loop .core)
@@ -48,13 +48,13 @@ mul-done : tie.Need-mul-done Inv-loop μ-loop Inv-scan μ-scan
 mul-done c = search needs
 
 element-copy-out-done : tie.Need-element-copy-out-done Inv-loop μ-loop Inv-scan μ-scan
-element-copy-out-done c = counter-at (at (c .before .before .before .before)) (c .before .before .before .before .before .loop .inv .1) (c .before .before .before .cell-effect .ensures) (c .before .effect .given .1)
+element-copy-out-done c = counter-at (at (c .before .before .before .before)) (c .before .before .before .before .before .loop .inv .0) (c .before .before .before .cell-effect .ensures) (c .before .effect .given .1)
 
 add-done : tie.Need-add-done Inv-loop μ-loop Inv-scan μ-scan
-add-done c = record { fits = fits-at (at (c .before .before .before .before .before .before)) (c .before .before .before .before .before .before .before .loop .inv .1) (c .before .before .before .before .before .cell-effect .ensures) (c .before .before .before .effect .given .1) }
+add-done c = record { fits = fits-at (at (c .before .before .before .before .before .before)) (c .before .before .before .before .before .before .before .loop .inv .0) (c .before .before .before .before .before .cell-effect .ensures) (c .before .before .before .effect .given .1) }
 
 element-write-done : tie.Need-element-write-done Inv-loop μ-loop Inv-scan μ-scan
-element-write-done c = counter-at (at (c .before .before .before .before .before .before)) (c .before .before .before .before .before .before .before .loop .inv .1) (c .before .before .before .before .before .cell-effect .ensures) (c .before .before .before .effect .given .1)
+element-write-done c = counter-at (at (c .before .before .before .before .before .before)) (c .before .before .before .before .before .before .before .loop .inv .0) (c .before .before .before .before .before .cell-effect .ensures) (c .before .before .before .effect .given .1)
 
 enum-known-effect-2 : tie.Need-enum-known-effect-2 Inv-loop μ-loop Inv-scan μ-scan
 enum-known-effect-2 c = search needs
@@ -70,12 +70,12 @@ loop-less c = search needs
 
 loop-again : tie.Need-loop-again Inv-loop μ-loop Inv-scan μ-scan
 loop-again c =
-    let passed = c .before .before .before .loop .inv .1 in (
-      omega arith,
+    let passed = c .before .before .before .loop .inv .0 in (
       ⊎-elim
           (λ w. rw (w .2) (rests-at (at (c .before .before)) passed (c .before .cell-effect .ensures) (w .1 .given .1)))
           (λ w. rw (w .5) (works-at (at (c .before .before)) passed (c .before .cell-effect .ensures) (w .1 .given .1)))
           (c .match .came),
+      omega arith,
     )
 
 add-slot : tie.Need-add-slot Inv-loop μ-loop Inv-scan μ-scan
@@ -85,13 +85,13 @@ scan-less : tie.Need-scan-less Inv-loop μ-loop Inv-scan μ-scan
 scan-less c = search needs
 
 scan-again : tie.Need-scan-again Inv-loop μ-loop Inv-scan μ-scan
-scan-again c = (omega arith, as-far (c .before .loop .inv .1) (omega arith))
+scan-again c = (as-far (c .before .loop .inv .0) (omega arith), omega arith)
 
 returns : tie.Need-returns Inv-loop μ-loop Inv-scan μ-scan
-returns c = ends-at (c .before .before .before .before .pre .0) (c .before .before .scan .inv .1) (c .if1 .taken)
+returns c = ends-at (c .before .before .before .before .pre .0) (c .before .before .scan .inv .0) (c .if1 .taken)
 
 returns-2 : tie.Need-returns-2 Inv-loop μ-loop Inv-scan μ-scan
-returns-2 c = stops-at (at (c .before .before .before .before)) (c .before .before .before .before .before .loop .inv .1) (c .before .before .before .cell-effect .ensures) (c .before .effect2 .given .1)
+returns-2 c = stops-at (at (c .before .before .before .before)) (c .before .before .before .before .before .loop .inv .0) (c .before .before .before .cell-effect .ensures) (c .before .effect2 .given .1)
 
 pub scan-cells-spec : {M : Type 1} → statement M
 scan-cells-spec =
