@@ -25,7 +25,7 @@ use Rattle.tasks.proofs.SoundLaws.{rows-length, rows-task, InRange, SoundList, 
 use Rattle.table.specs.Table.{cells, slotOf, coreOf, free}
 use Rattle.table.specs.Fault.{cellKind}
 use Rattle.checker.specs.declared.Effect.the-variants.{Nothing, Does, Faulty}
-use Rattle.checker.specs.Checks.{instanceFor, Ready, At, freeIn, counterOf, effectOf}
+use Rattle.checker.specs.Checks.{instanceFor, Ready, At, freeIn, counterAt, effectOf}
 use Rattle.checker.proofs.FaultLaws.{after, kind-unknown, kind-closed, kind-unrated, kind-twice, kind-none}
 
 -- ---- what fits
@@ -46,10 +46,7 @@ module _ {list : TaskList} {m h : ℕ} {t : List ℕ} (ready : Ready list m h t)
   pub few-listed : list .n ≤ 16
   few-listed = omega (arith, listed .few-tasks, rows-length list)
 
-  -- there are 1 to 4 cores
-  pub some-core : 1 ≤ m
-  some-core = listed .some-core
-
+  -- there are at most 4 cores
   pub few-cores : m ≤ 4
   few-cores = listed .few-cores
 
@@ -110,7 +107,7 @@ module _ (P : Instance) (f : ℕ → ℕ) (c : ℕ) where
     effect-faulty k e = rw (after (f c) x, e)
 
     -- and one without
-    effect-does : cellKind P f c ≡ 0 → Does (counterOf (f c) (P .job (f c) (slotOf P c))) (record { 0 = P .rate (f c) (coreOf P c) }) ≡ effectOf P f c
+    effect-does : cellKind P f c ≡ 0 → Does (counterAt (pred (f c)) (P .job (f c) (slotOf P c))) (record { 0 = P .rate (f c) (coreOf P c) }) ≡ effectOf P f c
     unfolding effectOf
     effect-does e = rw (after (f c) x, e)
 
@@ -208,10 +205,10 @@ module _ {list : TaskList} {m h : ℕ} {t : List ℕ} {slot core : ℕ} (at : At
                 (kind-twice P (nth t) c x known (opened .0) rated (test-no (sym (free-of (nth t c)) ∙ sym eb ∙ not-true b n)))
 
             -- a task that does its work
-            pub does-there : not b ≡ false → {work : Work} → work ≡ workIn (rate τ core) (record { 0 = 1 })
-                → Does (job * 16 + (nth t c - 1)) work ≡ effectOf P (nth t) c
-            does-there n {work} e =
-                (λ i. Does (opened .1 i * 16 + pred-is (nth t c) i) ((e ∙ units) i))
+            pub does-there : not b ≡ false → {x : ℕ} → x ≡ counterAt (nth t c - 1) job → {work : Work} → work ≡ workIn (rate τ core) (record { 0 = 1 })
+                → Does x work ≡ effectOf P (nth t) c
+            does-there n ex ew =
+                (λ i. Does ((ex ∙ (λ i. counterAt (pred-is (nth t c) i) (opened .1 i))) i) ((ew ∙ units) i))
                 ∙ effect-does P (nth t) c x (kind-none P (nth t) c x known (opened .0) rated (test-yes (sym (free-of (nth t c)) ∙ sym eb ∙ not-false b n)))
               where
                 pred-is : (v : ℕ) → v - 1 ≡ pred v
@@ -220,16 +217,3 @@ module _ {list : TaskList} {m h : ℕ} {t : List ℕ} {slot core : ℕ} (at : At
 
                 units : workIn (rate τ core) (record { 0 = 1 }) ≡ record { 0 = P .rate (nth t c) (coreOf P c) }
                 units = let s : rate τ core * 1 ≡ P .rate (nth t c) (coreOf P c) = omega (arith, rate-is) in λ i. record { 0 = s i }
-
-          -- its job has a counter
-          pub job-there : job < 1024
-          unfolding instanceOf
-          job-there =
-              let small = ready-small (at .ready) in
-              omega (
-                arith,
-                opened .1,
-                small .few-jobs (nth t c),
-                small .regular .job-there (nth t c) slot x known (at .slot-in),
-                ap (P .job (nth t c)) slot-of,
-              )

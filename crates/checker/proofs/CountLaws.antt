@@ -9,7 +9,7 @@ use mathlib.Core.Logic.{_≢_}
 use mathlib.Core.List.{List}
 use lib.ListN.{length}
 use borrow.Author.Tests.{le-leb, lt-leb, lt-ltb, le-ltb}
-use Rattle.laws.specs.Lists.{seek, firstOf}
+use Rattle.laws.specs.Lists.{nth, seek, firstOf}
 use Rattle.laws.proofs.SumLaws.{gate-lt, gate-ge}
 use Rattle.laws.proofs.ListLaws.{seek-is, seek-none, seek-some}
 use Rattle.tasks.specs.declared.Task.{Task}
@@ -19,7 +19,7 @@ use Rattle.tasks.specs.Refusal.{unless, Periods}
 use Rattle.tasks.proofs.SoundLaws.{rows-length, rows-task}
 use Rattle.table.specs.Fault.{checked, inJob}
 use Rattle.checker.specs.declared.Verdict.the-variants.{Valid, Job}
-use Rattle.checker.specs.Checks.{toldOf, workKind, countedKind, firstJob, jobFaultIn}
+use Rattle.checker.specs.Checks.{toldOf, counterAt, workKind, countedKind, firstJob, jobFaultIn}
 
 -- ---- the work of a job
 -- too little
@@ -36,6 +36,11 @@ work-much C d l = rw (le-leb C d (omega arith), lt-leb d C l)
 pub work-exact : (C d : ℕ) → C ≤ d → d ≤ C → 0 ≡ workKind C d
 unfolding workKind unless
 work-exact C d l m = rw (le-leb C d l, le-leb d C m)
+
+-- as its counter tells it
+pub counted-is : (counters : List ℕ) (place C k : ℕ) {x kind : ℕ} → x ≡ counterAt place k → kind ≡ workKind C (nth counters x) → kind ≡ countedKind counters place C k
+unfolding countedKind
+counted-is counters place C k e q = q ∙ ap (λ x. workKind C (nth counters x)) e
 
 -- ---- the jobs of a task
 -- the first faulty one is found

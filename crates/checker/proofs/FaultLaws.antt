@@ -139,13 +139,6 @@ module _ (P : Instance) (f : ℕ → ℕ) where
         go (fine r) x = absurd (x refl)
         go (wrong k w) x = w
 
-    -- and the other way
-    pub fine-kind : Fine P f c → cellKind P f c ≡ 0
-    fine-kind r = elim (ℕ-discrete (f c) 0) [
-      | yes e ↦ kind-idle c e
-      | no x ↦ kind-none c x (r .known) (r .open-there x) (r .rated x) (make-free P c f (f c) some-core (r .once x))
-    ]
-
   -- ---- jobs
   -- a job has exactly its work, or the fault of its kind
   module _ (i k : ℕ) where

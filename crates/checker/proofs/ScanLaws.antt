@@ -29,7 +29,7 @@ use Rattle.table.proofs.TableLaws.{slot-there}
 use Rattle.checker.specs.declared.Verdict.the-variants.{Valid, Cell}
 use Rattle.checker.specs.declared.Effect.{Effect}
 use Rattle.checker.specs.declared.Effect.the-variants.{Nothing, Does, Faulty}
-use Rattle.checker.specs.Checks.{toldOf, instanceFor, Ready, At, counterOf, effectIf, effectOf, Counted, cellFault, Scanned}
+use Rattle.checker.specs.Checks.{toldOf, instanceFor, Ready, At, counterAt, effectIf, effectOf, Counted, cellFault, Scanned}
 use Rattle.checker.specs.Faulty.{Fine}
 use Rattle.checker.proofs.FaultLaws.{after, kind-idle, kind-fine}
 use Rattle.checker.proofs.CellLaws.{Small, ready-small, slot-of, core-of, cell-in}
@@ -53,7 +53,7 @@ module _ (P : Instance) (f : ℕ → ℕ) (c : ℕ) where
 
   -- so much work for the job of a counter: the task there has no fault
   does-is : (x : ℕ) (w : Work) → effectOf P f c ≡ Does x w
-      → (f c ≢ 0) × (cellKind P f c ≡ 0) × (x ≡ counterOf (f c) (P .job (f c) (slotOf P c))) × (w .0 ≡ P .rate (f c) (coreOf P c))
+      → (f c ≢ 0) × (cellKind P f c ≡ 0) × (x ≡ counterAt (pred (f c)) (P .job (f c) (slotOf P c))) × (w .0 ≡ P .rate (f c) (coreOf P c))
   unfolding effectOf
   does-is x w = go (f c) (cellKind P f c) _ _
     where
@@ -123,7 +123,7 @@ module _ {P : Instance} {f : ℕ → ℕ} {counters : List ℕ} where
 
     -- at a cell that does work
     module _ (small : Small P) (l : c < cells P) {x : ℕ} {w : Work} (e : effectOf P f c ≡ Does x w) where
-      is : (f c ≢ 0) × (cellKind P f c ≡ 0) × (x ≡ counterOf (f c) (P .job (f c) (slotOf P c))) × (w .0 ≡ P .rate (f c) (coreOf P c))
+      is : (f c ≢ 0) × (cellKind P f c ≡ 0) × (x ≡ counterAt (pred (f c)) (P .job (f c) (slotOf P c))) × (w .0 ≡ P .rate (f c) (coreOf P c))
       is = does-is P f c x w e
 
       fine : Fine P f c
@@ -173,14 +173,14 @@ module _ {P : Instance} {f : ℕ → ℕ} {counters : List ℕ} where
         counted = record { size = simp length-set (p .counted .size); work = counts };
       }
         where
-          counts : (a b : ℕ) → a < 16 → b < 1024 → nth (set counters x (nth counters x + w .0)) (b * 16 + a) ≡ done P (c + 1) f (suc a) b
-          counts a b la lb = elim (ℕ-discrete (b * 16 + a) x) [
+          counts : (a b : ℕ) → a < 16 → b < 1024 → nth (set counters x (nth counters x + w .0)) (counterAt a b) ≡ done P (c + 1) f (suc a) b
+          counts a b la lb = elim (ℕ-discrete (counterAt a b) x) [
             | yes q ↦ ap (nth (set counters x (nth counters x + w .0))) q ∙ getD-set-same counters x _ 0 (omega (arith, counter-in, p .counted .size)) ∙ more q
-            | no y ↦ getD-set-other counters x (b * 16 + a) _ 0 y ∙ omega (arith, p .counted .work a b la lb, done-next P f c (suc a) b, others y)
+            | no y ↦ getD-set-other counters x (counterAt a b) _ 0 y ∙ omega (arith, p .counted .work a b la lb, done-next P f c (suc a) b, others y)
           ]
             where
               -- the job's own counter
-              more : b * 16 + a ≡ x → nth counters x + w .0 ≡ done P (c + 1) f (suc a) b
+              more : counterAt a b ≡ x → nth counters x + w .0 ≡ done P (c + 1) f (suc a) b
               more q =
                   let t : suc a ≡ f c = omega (arith, q, is .2, few-i, after (f c) (is .0)) in
                   let j : b ≡ k = omega (arith, q, is .2, few-i) in
@@ -188,8 +188,8 @@ module _ {P : Instance} {f : ℕ → ℕ} {counters : List ℕ} where
                   ∙ (λ n. done P (c + 1) f (sym t n) (sym j n))
 
               -- the cell does nothing for the others
-              others : b * 16 + a ≢ x → share P (suc a) b c (f c) ≡ 0
-              others y = share-none P (suc a) b c (f c) (λ v s. y (sym (is .2 ∙ (λ n. slot-is v s n * 16 + pred (v n)))))
+              others : counterAt a b ≢ x → share P (suc a) b c (f c) ≡ 0
+              others y = share-none P (suc a) b c (f c) (λ v s. y (sym (is .2 ∙ (λ n. counterAt (pred (v n)) (slot-is v s n)))))
                 where
                   slot-is : f c ≡ suc a → T (jobSlot P (suc a) b (slotOf P c)) → P .job (f c) (slotOf P c) ≡ b
                   slot-is v s = ap (λ u. P .job u (slotOf P c)) v ∙ slot-job P (suc a) b (slotOf P c) s .1

@@ -28,7 +28,7 @@ use Rattle.table.specs.Fault.{cellKind, jobKind, noFault, inJob, jobFault, faul
 use Rattle.checker.proofs.Verdict.{the-type}
 use Rattle.checker.specs.declared.Verdict.{Verdict}
 use Rattle.checker.specs.declared.Verdict.the-variants.{Valid, Cell, Job, Refused}
-use Rattle.checker.specs.Checks.{toldOf, instanceFor, Ready, Counted, cellFault, Scanned, workKind, countedKind, firstJob, jobFaultIn}
+use Rattle.checker.specs.Checks.{toldOf, instanceFor, Ready, counterAt, Counted, cellFault, Scanned, workKind, countedKind, firstJob, jobFaultIn}
 use Rattle.checker.proofs.CellLaws.{Small, few-listed, few-slots, ready-small}
 
 -- ---- refusals
@@ -150,7 +150,7 @@ module _ {list : TaskList} {m h : ℕ} {t : List ℕ} (ready : Ready list m h t)
   unfolding done sum
   counted-none = record {
     size = length-replicate {A = ℕ} 16384 0;
-    work = λ i k l q. getD-replicate {A = ℕ} 16384 (k * 16 + i) 0 0 (omega arith);
+    work = λ i k l q. getD-replicate {A = ℕ} 16384 (counterAt i k) 0 0 (omega arith);
   }
 
   -- what the jobs are tested by

@@ -48,9 +48,9 @@ pub record At (list : TaskList) (m h : ℕ) (t : List ℕ) (slot core : ℕ) : T
 unfoldable pub freeIn : List ℕ → ℕ → ℕ → ℕ → Bool
 freeIn t first core v = all core (λ j. not (eqb (nth t (first + j)) v))
 
--- the counter of job k of task i
-abbrev pub counterOf : ℕ → ℕ → ℕ
-counterOf i k = k * 16 + pred i
+-- the counter of job k of the task at a place of the list, from 0
+abbrev pub counterAt : ℕ → ℕ → ℕ
+counterAt place k = k * 16 + place
 
 -- nothing for an idle cell, a fault of its kind, or the work s for the job of counter x
 abbrev pub effectIf : ℕ → ℕ → ℕ → ℕ → Effect
@@ -60,12 +60,12 @@ effectIf (suc v) (suc kind) x s = Faulty (suc kind)
 
 -- what cell c does
 unfoldable pub effectOf : Instance → (ℕ → ℕ) → ℕ → Effect
-effectOf P f c = effectIf (f c) (cellKind P f c) (counterOf (f c) (P .job (f c) (slotOf P c))) (P .rate (f c) (coreOf P c))
+effectOf P f c = effectIf (f c) (cellKind P f c) (counterAt (pred (f c)) (P .job (f c) (slotOf P c))) (P .rate (f c) (coreOf P c))
 
 -- the counters hold what the first c cells do for each job
 pub record Counted (P : Instance) (f : ℕ → ℕ) (c : ℕ) (counters : List ℕ) : Type 0 where
   pub size : length counters ≡ 16384
-  pub work : (i k : ℕ) → i < 16 → k < 1024 → nth counters (k * 16 + i) ≡ done P c f (suc i) k
+  pub work : (i k : ℕ) → i < 16 → k < 1024 → nth counters (counterAt i k) ≡ done P c f (suc i) k
 
 -- the first faulty cell
 unfoldable pub cellFault : Instance → (ℕ → ℕ) → Fault
@@ -85,7 +85,7 @@ workKind C d = unless (leb C d) 5 (unless (leb d C) 6 0)
 
 -- the fault of job k of the task at a place of the list, by its counter
 unfoldable pub countedKind : List ℕ → ℕ → ℕ → ℕ → ℕ
-countedKind counters place C k = workKind C (nth counters (k * 16 + place))
+countedKind counters place C k = workKind C (nth counters (counterAt place k))
 
 -- the first faulty job of n tasks, by task and job number
 unfoldable pub firstJob : ℕ → (ℕ → ℕ) → (ℕ → ℕ → ℕ) → Fault

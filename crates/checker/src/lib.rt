@@ -6,7 +6,7 @@ ghost use Rattle.laws.specs.Lists.{nth, seek};
 ghost use Rattle.tasks.specs.Task.{rows};
 ghost use Rattle.tasks.specs.Refusal.{Periods};
 ghost use Rattle.table.specs.Fault.{check, checked};
-ghost use Rattle.checker.specs.Checks.{toldOf, instanceFor, Ready, At, freeIn, effectOf, Counted, Scanned, workKind, countedKind, jobFaultIn};
+ghost use Rattle.checker.specs.Checks.{toldOf, instanceFor, Ready, At, freeIn, counterAt, effectOf, Counted, Scanned, workKind, countedKind, jobFaultIn};
 use tasks::MAX_TASKS;
 use tasks::Slots;
 use tasks::Soundness;
@@ -53,14 +53,21 @@ fn free(table: &[u8], first: usize, core: u8, task: u8) -> bool
     true
 }
 
+// The counter of a job of the task at a place of the list, from 0: in the job's row of 16.
+fn counter_of(place: u8, job: u16) -> usize
+    ensures { λ r. ⌜ r ≡ counterAt place job ⌝ }
+{
+    (job as usize) * (MAX_TASKS as usize) + (place as usize)
+}
+
 // What a cell does: nothing, so much work for the job at a counter, or a fault of a kind.
 enum Effect {
     Nothing,
-    Does(u16, Work),
+    Does(usize, Work),
     Faulty(u8),
 }
 
-// The effect of a cell. The counter of a task's job is in the job's row of 16, at the task's place.
+// The effect of a cell.
 fn cell_effect(list: TaskList, len: Slots, m: u8, table: &[u8], slot: u16, core: u8) -> Effect
     requires { ⌜ At list m (len .0) (now table) slot core ⌝ }
     ensures { λ r. ⌜ r ≡ effectOf (instanceFor list m (len .0)) (nth (now (table .entry))) (slot * m + core) ⌝ }
@@ -87,10 +94,7 @@ fn cell_effect(list: TaskList, len: Slots, m: u8, table: &[u8], slot: u16, core:
             if !free(table, first, core, value) {
                 return Effect::Faulty(ALREADY_IN_SLOT);
             }
-            Effect::Does(
-                job * (MAX_TASKS as u16) + (place as u16),
-                tasks::work_in(rate, Slots(1)),
-            )
+            Effect::Does(counter_of(place, job), tasks::work_in(rate, Slots(1)))
         }
     }
 }
@@ -110,7 +114,7 @@ fn scan_cells(list: TaskList, len: Slots, m: u8, table: &[u8], done: &mut [u16; 
             match effect {
                 Effect::Nothing => {}
                 Effect::Does(counter, work) => {
-                    done[counter as usize] += work.0;
+                    done[counter] += work.0;
                 }
                 Effect::Faulty(kind) => {
                     break 'scan Verdict::Cell(slot, core + 1, kind);
@@ -139,10 +143,7 @@ fn counted_kind(done: &[u16; 16384], place: u8, work: Work, job: u16) -> u8
     requires { ⌜ (place < 16) × (job < 1024) ⌝ }
     ensures { λ r. ⌜ r ≡ countedKind (now (done .entry)) place (work .0) job ⌝ }
 {
-    job_kind(
-        work,
-        Work(done[(job as usize) * (MAX_TASKS as usize) + (place as usize)]),
-    )
+    job_kind(work, Work(done[counter_of(place, job)]))
 }
 
 // The first faulty job of the task at a place of the list; the number of its jobs if none is.

@@ -1,8 +1,7 @@
 -- `checker::cell_effect` meets its contract: its tests are those of the cell's kind, in 01's order.
 -- Assumes nothing.
-use Prim.Native.Nat.{_<_}
 use native.Mathlib.Omega.{arith}
-use Rattle.checker.proofs.CellLaws.{few-listed, few-cores, some-slot, few-slots, first-small, cell-in, task-there, idle-there, unknown-there, closed-there, unrated-there, twice-there, does-there, job-there}
+use Rattle.checker.proofs.CellLaws.{few-listed, few-cores, some-slot, few-slots, first-small, cell-in, task-there, idle-there, unknown-there, closed-there, unrated-there, twice-there, does-there}
 use borrow.Author.Needs.{needs}
 use Rattle.checker.proofs.cell_effect.Statement.{statement}
 use Rattle.checker.proofs.cell_effect.Tie as tie
@@ -58,28 +57,13 @@ returns-4 c =
     twice-there (c .before .before .before .before .before .before .before .before .before .before .before .before .before .before .pre) (c .before .before .before .before .before .before .before .before .before .before .before .if1 .left) (c .before .before .before .before .before .before .before .before .before .if2 .left) (c .before .before .before .before .before .before .before .before .task-at .ensures)
     (c .before .before .before .before .before .before .before .open-in .ensures) (c .before .before .before .before .before .window .given .1) (c .before .before .if3 .left) (c .before .free .ensures) (c .if4 .taken)
 
-cast-t28 : tie.Need-cast-t28
-cast-t28 c = search needs
-
--- the job's number
-few-job : (c : tie.Else4) → c .before .before .before .before .before .window .given .0 .0 < 1024
-few-job c =
-    job-there (c .before .before .before .before .before .before .before .before .before .before .before .before .before .before .pre) (c .before .before .before .before .before .before .before .before .before .before .before .if1 .left) (c .before .before .before .before .before .before .before .before .before .if2 .left) (c .before .before .before .before .before .before .before .before .task-at .ensures)
-    (c .before .before .before .before .before .before .before .open-in .ensures) (c .before .before .before .before .before .window .given .1)
-
-mul-t29 : tie.Need-mul-t29
-mul-t29 c = omega (arith, few-job c)
-
-cast-t30 : tie.Need-cast-t30
-cast-t30 c = search needs
-
-add-t31 : tie.Need-add-t31
-add-t31 c = omega (arith, few-job c, few-listed (c .before .before .before .before .before .before .before .before .before .before .before .before .before .before .pre .ready), c .before .before .before .before .before .before .before .before .before .if2 .left)
+counter-of-requires : tie.Need-counter-of-requires
+counter-of-requires c κs = search needs
 
 work-in-requires : tie.Need-work-in-requires
 work-in-requires c κs =
-    let s = c .before .before .before .before .before .before .before .before .before .before .before .before .before .before in
-    (task-there (s .pre .ready) _ (c .before .before .before .before .before .before .before .before .before .before .before .if1 .left) (c .before .before .before .before .before .before .before .before .before .if2 .left) (c .before .before .before .before .before .before .before .before .task-at .ensures) .rate-le _ (omega (arith, few-cores (s .pre .ready), s .pre .core-in)), omega arith)
+    let s = c .before .before .before .before .before .before .before .before .before .before .before .before .before .before .before in
+    (task-there (s .pre .ready) _ (c .before .before .before .before .before .before .before .before .before .before .before .before .if1 .left) (c .before .before .before .before .before .before .before .before .before .before .if2 .left) (c .before .before .before .before .before .before .before .before .before .task-at .ensures) .rate-le _ (omega (arith, few-cores (s .pre .ready), s .pre .core-in)), omega arith)
 
 returns-5 : tie.Need-returns-5
 returns-5 c =
@@ -88,8 +72,8 @@ returns-5 c =
 
 returns-6 : tie.Need-returns-6
 returns-6 c =
-    does-there (c .before .before .before .before .before .before .before .before .before .before .before .before .before .before .before .pre) (c .before .before .before .before .before .before .before .before .before .before .before .before .if1 .left) (c .before .before .before .before .before .before .before .before .before .before .if2 .left) (c .before .before .before .before .before .before .before .before .before .task-at .ensures)
-    (c .before .before .before .before .before .before .before .before .open-in .ensures) (c .before .before .before .before .before .before .window .given .1) (c .before .before .before .if3 .left) (c .before .before .free .ensures) (c .before .if4 .left) (c .work-in .ensures)
+    does-there (c .before .before .before .before .before .before .before .before .before .before .before .before .before .before .before .before .pre) (c .before .before .before .before .before .before .before .before .before .before .before .before .before .if1 .left) (c .before .before .before .before .before .before .before .before .before .before .before .if2 .left) (c .before .before .before .before .before .before .before .before .before .before .task-at .ensures)
+    (c .before .before .before .before .before .before .before .before .before .open-in .ensures) (c .before .before .before .before .before .before .before .window .given .1) (c .before .before .before .before .if3 .left) (c .before .before .before .free .ensures) (c .before .before .if4 .left) (c .before .counter-of .ensures) (c .work-in .ensures)
 
 pub cell-effect-spec : {M : Type 1} → statement M
 cell-effect-spec =
@@ -110,10 +94,7 @@ cell-effect-spec =
     returns-3
     free-requires
     returns-4
-    cast-t28
-    mul-t29
-    cast-t30
-    add-t31
+    counter-of-requires
     work-in-requires
     returns-5
     returns-6)

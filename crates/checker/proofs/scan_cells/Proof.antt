@@ -41,11 +41,8 @@ enum-told c = search needs
 enum-known-effect : tie.Need-enum-known-effect Inv-loop μ-loop Inv-scan μ-scan
 enum-known-effect c = search needs
 
-cast-done : tie.Need-cast-done Inv-loop μ-loop Inv-scan μ-scan
-cast-done c = search needs
-
 mul-done : tie.Need-mul-done Inv-loop μ-loop Inv-scan μ-scan
-mul-done c = search needs
+mul-done c = omega (arith, counter-at (at (c .before .before .before .before)) (c .before .before .before .before .before .loop .inv .0) (c .before .before .before .cell-effect .ensures) (c .before .effect .given .1))
 
 element-copy-out-done : tie.Need-element-copy-out-done Inv-loop μ-loop Inv-scan μ-scan
 element-copy-out-done c = counter-at (at (c .before .before .before .before)) (c .before .before .before .before .before .loop .inv .0) (c .before .before .before .cell-effect .ensures) (c .before .effect .given .1)
@@ -59,8 +56,8 @@ element-write-done c = counter-at (at (c .before .before .before .before .before
 enum-known-effect-2 : tie.Need-enum-known-effect-2 Inv-loop μ-loop Inv-scan μ-scan
 enum-known-effect-2 c = search needs
 
-add-t21 : tie.Need-add-t21 Inv-loop μ-loop Inv-scan μ-scan
-add-t21 c = search needs
+add-t20 : tie.Need-add-t20 Inv-loop μ-loop Inv-scan μ-scan
+add-t20 c = search needs
 
 add-core : tie.Need-add-core Inv-loop μ-loop Inv-scan μ-scan
 add-core c = search needs
@@ -106,13 +103,12 @@ scan-cells-spec =
     cell-effect-requires
     enum-told
     enum-known-effect
-    cast-done
     mul-done
     element-copy-out-done
     add-done
     element-write-done
     enum-known-effect-2
-    add-t21
+    add-t20
     add-core
     loop-less
     loop-again
