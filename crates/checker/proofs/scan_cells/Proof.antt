@@ -1,6 +1,6 @@
 -- `checker::scan_cells` meets its contract. Both loops' invariant: the cells passed have no fault, and their work is counted.
 -- The measures are what is left of the slots and of the cores. Assumes nothing.
-use Prim.Native.Nat.{_+_, _*_, _-_, _≤_}
+use Prim.Native.Nat.{_+_, _*_, _-_, _≤_, _<_}
 use mathlib.Core.Logic.{⊎-elim}
 use native.Mathlib.Omega.{arith}
 use Rattle.laws.specs.Lists.{nth}
@@ -41,17 +41,21 @@ enum-told c = search needs
 enum-known-effect : tie.Need-enum-known-effect Inv-loop μ-loop Inv-scan μ-scan
 enum-known-effect c = search needs
 
+-- the counter of a cell that does work
+counter : (c : tie.After-known-told Inv-loop μ-loop Inv-scan μ-scan) → c .before .effect .given .0 .0 < 16384
+counter c = counter-at (at (c .before .before .before .before)) (c .before .before .before .before .before .loop .inv .0) (c .before .before .before .cell-effect .ensures) (c .before .effect .given .1)
+
 mul-done : tie.Need-mul-done Inv-loop μ-loop Inv-scan μ-scan
-mul-done c = omega (arith, counter-at (at (c .before .before .before .before)) (c .before .before .before .before .before .loop .inv .0) (c .before .before .before .cell-effect .ensures) (c .before .effect .given .1))
+mul-done c = omega (arith, counter c)
 
 element-copy-out-done : tie.Need-element-copy-out-done Inv-loop μ-loop Inv-scan μ-scan
-element-copy-out-done c = counter-at (at (c .before .before .before .before)) (c .before .before .before .before .before .loop .inv .0) (c .before .before .before .cell-effect .ensures) (c .before .effect .given .1)
+element-copy-out-done c = counter c
 
 add-done : tie.Need-add-done Inv-loop μ-loop Inv-scan μ-scan
 add-done c = record { fits = fits-at (at (c .before .before .before .before .before .before)) (c .before .before .before .before .before .before .before .loop .inv .0) (c .before .before .before .before .before .cell-effect .ensures) (c .before .before .before .effect .given .1) }
 
 element-write-done : tie.Need-element-write-done Inv-loop μ-loop Inv-scan μ-scan
-element-write-done c = counter-at (at (c .before .before .before .before .before .before)) (c .before .before .before .before .before .before .before .loop .inv .0) (c .before .before .before .before .before .cell-effect .ensures) (c .before .before .before .effect .given .1)
+element-write-done c = counter (c .before .before)
 
 enum-known-effect-2 : tie.Need-enum-known-effect-2 Inv-loop μ-loop Inv-scan μ-scan
 enum-known-effect-2 c = search needs
