@@ -57,6 +57,38 @@ unfolding seek
 seek-none zero g none = refl
 seek-none (suc n) g none = rw (none 0 (omega arith)) (ap suc (seek-none n (λ k. g (suc k)) (λ k m. none (suc k) (omega arith))))
 
+-- no place before the one that is found has a number that is not 0
+pub seek-before : (n : ℕ) (g : ℕ → ℕ) (k : ℕ) → k < seek n g → g k ≡ 0
+unfolding seek
+seek-before zero g k l = absurd (omega arith)
+seek-before (suc n) g k l = go (g 0) refl k l (seek-before n (λ j. g (suc j)))
+  where
+    go : (x : ℕ) → g 0 ≡ x → (k : ℕ) → k < orLater x (suc (seek n (λ j. g (suc j)))) → ((j : ℕ) → j < seek n (λ j. g (suc j)) → g (suc j) ≡ 0) → g k ≡ 0
+    go zero e zero l h = e
+    go zero e (suc k) l h = h k (omega arith)
+    go (suc x) e k l h = absurd (omega arith)
+
+-- the place is among the n, or none is found
+pub seek-le : (n : ℕ) (g : ℕ → ℕ) → seek n g ≤ n
+unfolding seek
+seek-le zero g = omega arith
+seek-le (suc n) g = go (g 0) (seek-le n (λ j. g (suc j)))
+  where
+    go : (x : ℕ) → seek n (λ j. g (suc j)) ≤ n → orLater x (suc (seek n (λ j. g (suc j)))) ≤ suc n
+    go zero l = omega arith
+    go (suc x) l = omega arith
+
+-- the number at a place that is found is not 0
+pub seek-some : (n : ℕ) (g : ℕ → ℕ) → seek n g < n → g (seek n g) ≢ 0
+unfolding seek
+seek-some zero g l = absurd (omega arith)
+seek-some (suc n) g l = go (g 0) refl l (seek-some n (λ j. g (suc j)))
+  where
+    go : (x : ℕ) → g 0 ≡ x → orLater x (suc (seek n (λ j. g (suc j)))) < suc n → (seek n (λ j. g (suc j)) < n → g (suc (seek n (λ j. g (suc j)))) ≢ 0)
+        → g (orLater x (suc (seek n (λ j. g (suc j))))) ≢ 0
+    go zero e l h z = h (omega arith) z
+    go (suc x) e l h z = absurd (omega arith)
+
 -- the first that is not 0
 pub first-is : (n i : ℕ) (g : ℕ → ℕ) → i < n → ((k : ℕ) → k < i → g k ≡ 0) → g i ≢ 0 → firstOf n g ≡ g i
 first-is n i g l none x = rw (seek-is n i g l none x) (gate-lt i n (g i) l)

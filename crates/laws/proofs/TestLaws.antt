@@ -74,3 +74,12 @@ all-false (suc n) f k l e = elim (ℕ-discrete k n) [
 pub all-true : (n : ℕ) (f : ℕ → Bool) → ((k : ℕ) → k < n → f k ≡ true) → all n f ≡ true
 all-true zero f h = refl
 all-true (suc n) f h = rw (all-true n f (λ k l. h k (omega arith)), h n (omega arith))
+
+-- a test that does not pass at each number below n fails at one
+pub all-fails : (n : ℕ) (f : ℕ → Bool) → (T (all n f) → ⊥) → (k : ℕ) × (k < n) × (T (f k) → ⊥)
+all-fails zero f x = absurd (x tt)
+all-fails (suc n) f x = go (all n f) (all-fails n f) x
+  where
+    go : (b : Bool) → ((T b → ⊥) → (k : ℕ) × (k < n) × (T (f k) → ⊥)) → (T (b && f n) → ⊥) → (k : ℕ) × (k < suc n) × (T (f k) → ⊥)
+    go true h x = (n, omega arith, x)
+    go false h x = let r = h (λ t. t) in (r .0, omega arith, r .2)

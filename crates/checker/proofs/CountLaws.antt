@@ -1,0 +1,104 @@
+-- The first faulty job by the counters: the work of one job, the jobs of a task, and the tasks.
+-- Assumes nothing.
+use Prim.Native.Nat.{ℕ, suc, _+_, _/_, _≤_, _<_}
+use native.Mathlib.Nat.{div-le-self}
+use native.Mathlib.Numerals.{add-one}
+use native.Mathlib.Omega.{arith}
+use mathlib.Core.Path.{_≡_, sym, ap, subst, _∙_}
+use mathlib.Core.Logic.{_≢_}
+use mathlib.Core.List.{List}
+use lib.ListN.{length}
+use borrow.Author.Tests.{le-leb, lt-leb, lt-ltb, le-ltb}
+use Rattle.laws.specs.Lists.{nth, seek, firstOf}
+use Rattle.laws.proofs.SumLaws.{gate-lt, gate-ge}
+use Rattle.laws.proofs.ListLaws.{seek-is, seek-none, seek-some}
+use Rattle.tasks.specs.declared.Task.{Task}
+use Rattle.tasks.specs.declared.TaskList.{TaskList}
+use Rattle.tasks.specs.Task.{task, taskAt, rows}
+use Rattle.tasks.specs.Refusal.{unless, Periods}
+use Rattle.tasks.proofs.SoundLaws.{rows-length, rows-task}
+use Rattle.table.specs.Fault.{checked, inJob}
+use Rattle.checker.specs.declared.Verdict.the-variants.{Valid, Job}
+use Rattle.checker.specs.Checks.{toldOf, counterAt, workKind, countedKind, firstJob, jobFaultIn}
+
+-- ---- the work of a job
+-- too little
+pub work-little : (C d : ℕ) → d < C → 5 ≡ workKind C d
+unfolding workKind unless
+work-little C d l = rw (lt-leb C d l)
+
+-- too much
+pub work-much : (C d : ℕ) → C < d → 6 ≡ workKind C d
+unfolding workKind unless
+work-much C d l = rw (le-leb C d (omega arith), lt-leb d C l)
+
+-- exactly C
+pub work-exact : (C d : ℕ) → C ≤ d → d ≤ C → 0 ≡ workKind C d
+unfolding workKind unless
+work-exact C d l m = rw (le-leb C d l, le-leb d C m)
+
+-- as its counter tells it
+pub counted-is : (counters : List ℕ) (place C k : ℕ) {x kind : ℕ} → x ≡ counterAt place k → kind ≡ workKind C (nth counters x) → kind ≡ countedKind counters place C k
+unfolding countedKind
+counted-is counters place C k e q = q ∙ ap (λ x. workKind C (nth counters x)) e
+
+-- ---- the jobs of a task
+-- the first faulty one is found
+pub job-found : (n i x : ℕ) (g : ℕ → ℕ) → i < n → ((k : ℕ) → k < i → g k ≡ 0) → x ≡ g i → x ≢ 0 → i ≡ seek n g
+job-found n i x g l none e y = sym (seek-is n i g l none (λ z. y (e ∙ z)))
+
+-- none is faulty
+pub job-none : (n i : ℕ) (g : ℕ → ℕ) → i ≤ n → n ≤ i → ((k : ℕ) → k < i → g k ≡ 0) → i ≡ seek n g
+job-none n i g l m none = let e : i ≡ n = omega arith in e ∙ sym (seek-none n g (λ k q. none k (omega arith)))
+
+-- ---- the tasks
+-- the first fault of the jobs of the task at place j
+pub row : List ℕ → ℕ → List Task → ℕ → ℕ
+row counters h ts j = firstOf (h / task ts (suc j) .period .0) (countedKind counters j (task ts (suc j) .work .0))
+
+module _ (list : TaskList) (place : ℕ) (l : place < list .n) {τ : Task} (e : τ ≡ taskAt list place) where
+  -- the task has a period
+  pub period-some : Periods (rows list) → 0 < τ .period .0
+  period-some p = subst (λ σ. 0 < σ .period .0) (rows-task list place l ∙ sym e) (p place (rw rows-length l) .0)
+
+  -- and few jobs
+  pub few-jobs : (h : ℕ) → h ≤ 1024 → h / τ .period .0 ≤ 1024
+  few-jobs h k = omega (arith, div-le-self h (τ .period .0))
+
+  module _ (counters : List ℕ) (h : ℕ) {job : ℕ} (ej : job ≡ seek (h / τ .period .0) (countedKind counters place (τ .work .0))) where
+    row-is : firstOf (h / τ .period .0) (countedKind counters place (τ .work .0)) ≡ row counters h (rows list) place
+    unfolding row
+    row-is = ap (λ σ. firstOf (h / σ .period .0) (countedKind counters place (σ .work .0))) (e ∙ sym (rows-task list place l))
+
+    -- none of its jobs is faulty
+    pub row-clean : h / τ .period .0 ≤ job → row counters h (rows list) place ≡ 0
+    row-clean k = sym row-is ∙ gate-ge _ _ _ (subst (_≤_ _) ej k)
+
+    -- one is, and none of an earlier task
+    pub row-told : ((j : ℕ) → j < place → row counters h (rows list) j ≡ 0) → job < h / τ .period .0
+        → {kind : ℕ} → kind ≡ countedKind counters place (τ .work .0) job
+        → toldOf (Job (place + 1) job kind) ≡ checked (jobFaultIn counters h (rows list))
+    unfolding toldOf jobFaultIn firstJob row
+    row-told none k {kind} ek =
+        rw (at, lt-ltb place (length (rows list)) (rw rows-length l))
+        (λ i. checked (inJob (add-one place i) (job-is i) ((ek ∙ (λ i. countedKind counters place (same i .work .0) (job-is i))) i)))
+      where
+        same : τ ≡ task (rows list) (suc place)
+        same = e ∙ sym (rows-task list place l)
+
+        job-is : job ≡ seek (h / task (rows list) (suc place) .period .0) (countedKind counters place (task (rows list) (suc place) .work .0))
+        job-is = ej ∙ ap (λ σ. seek (h / σ .period .0) (countedKind counters place (σ .work .0))) same
+
+        under : seek (h / τ .period .0) (countedKind counters place (τ .work .0)) < h / τ .period .0
+        under = subst (λ n. n < h / τ .period .0) ej k
+
+        at : seek (length (rows list)) (row counters h (rows list)) ≡ place
+        at = seek-is (length (rows list)) place (row counters h (rows list)) (rw rows-length l) none
+            (λ z. seek-some _ _ under (sym (gate-lt _ _ _ under) ∙ row-is ∙ z))
+
+-- none of any task is faulty
+pub rows-told : (list : TaskList) (counters : List ℕ) (h i : ℕ) → i ≤ list .n → list .n ≤ i → ((j : ℕ) → j < i → row counters h (rows list) j ≡ 0)
+    → toldOf Valid ≡ checked (jobFaultIn counters h (rows list))
+unfolding toldOf jobFaultIn firstJob row
+rows-told list counters h i a b none =
+    rw (seek-none (length (rows list)) (row counters h (rows list)) (λ j q. none j (omega (arith, rows-length list))), le-ltb (length (rows list)) (length (rows list)) (omega arith))

@@ -1,0 +1,254 @@
+-- One pass over the cells: the cells passed have no fault, and the counters hold what they do for each job.
+-- Assumes nothing.
+use Prim.Native.Nat.{ℕ, zero, suc, pred, _+_, _*_, _≤_, _<_}
+use native.Mathlib.Nat.{mod-lt}
+use native.Mathlib.Decide.{ℕ-discrete}
+use native.Mathlib.Numerals.{add-one}
+use native.Mathlib.Omega.{arith}
+use mathlib.Core.Path.{_≡_, refl, sym, ap, subst, _∙_}
+use mathlib.Core.Logic.{_≢_}
+use mathlib.Core.Bool.{Bool, true, false, _&&_}
+use mathlib.Core.List.{List}
+use lib.Dec.{T, eqb}
+use lib.ListN.{set, length-set}
+use lib.Seq.{getD-set-same, getD-set-other}
+use borrow.Author.Count.{below-none, below-more}
+use borrow.Author.Tests.{lt-ltb, le-ltb}
+use Rattle.laws.specs.Sum.{gate, sum}
+use Rattle.laws.specs.Lists.{nth, seek}
+use Rattle.laws.proofs.SumLaws.{sum-le, sum-const}
+use Rattle.laws.proofs.ListLaws.{seek-is, seek-none}
+use Rattle.tasks.specs.declared.Work.{Work}
+use Rattle.tasks.specs.declared.TaskList.{TaskList}
+use Rattle.tasks.specs.Instance.{Instance, jobSlot, instanceOf}
+use Rattle.table.specs.Table.{cells, slotOf, coreOf, share, done}
+use Rattle.table.specs.Fault.{cellKind, inCell, checked}
+use Rattle.table.proofs.JobLaws.{slot-job}
+use Rattle.table.proofs.ShareLaws.{share-own, share-other, share-none}
+use Rattle.table.proofs.TableLaws.{slot-there}
+use Rattle.checker.specs.declared.Verdict.the-variants.{Valid, Cell}
+use Rattle.checker.specs.declared.Effect.{Effect}
+use Rattle.checker.specs.declared.Effect.the-variants.{Nothing, Does, Faulty}
+use Rattle.checker.specs.Checks.{toldOf, instanceFor, Ready, At, counterAt, effectIf, effectOf, Counted, cellFault, Scanned}
+use Rattle.checker.specs.Faulty.{Fine}
+use Rattle.checker.proofs.FaultLaws.{after, kind-idle, kind-fine}
+use Rattle.checker.proofs.CellLaws.{Small, ready-small, slot-of, core-of, cell-in}
+
+-- the first c cells have no fault, and their work is counted
+pub record Passed (P : Instance) (f : ℕ → ℕ) (c : ℕ) (counters : List ℕ) : Type 0 where
+  pub clean : (d : ℕ) → d < c → cellKind P f d ≡ 0
+  pub counted : Counted P f c counters
+
+-- ---- what an effect says of its cell
+module _ (P : Instance) (f : ℕ → ℕ) (c : ℕ) where
+  -- nothing: it is idle
+  nothing-is : effectOf P f c ≡ Nothing → f c ≡ 0
+  unfolding effectOf
+  nothing-is = go (f c) (cellKind P f c) _ _
+    where
+      go : (v k y s : ℕ) → effectIf v k y s ≡ Nothing → v ≡ 0
+      go zero k y s e = refl
+      go (suc v) zero y s e = let z : _≡_ {A = ℕ} 0 1 = cc in absurd (omega arith)
+      go (suc v) (suc k) y s e = let z : _≡_ {A = ℕ} 0 1 = cc in absurd (omega arith)
+
+  -- so much work for the job of a counter: the task there has no fault
+  does-is : (x : ℕ) (w : Work) → effectOf P f c ≡ Does x w
+      → (f c ≢ 0) × (cellKind P f c ≡ 0) × (x ≡ counterAt (pred (f c)) (P .job (f c) (slotOf P c))) × (w .0 ≡ P .rate (f c) (coreOf P c))
+  unfolding effectOf
+  does-is x w = go (f c) (cellKind P f c) _ _
+    where
+      go : (v k y s : ℕ) → effectIf v k y s ≡ Does x w → (v ≢ 0) × (k ≡ 0) × (x ≡ y) × (w .0 ≡ s)
+      go zero k y s e = let z : _≡_ {A = ℕ} 0 1 = cc in absurd (omega arith)
+      go (suc v) zero y s e = (λ z. omega arith, refl, cc, cc)
+      go (suc v) (suc k) y s e = let z : _≡_ {A = ℕ} 0 1 = cc in absurd (omega arith)
+
+  -- a fault: it is the cell's
+  faulty-is : (kind : ℕ) → effectOf P f c ≡ Faulty kind → (cellKind P f c ≡ kind) × (kind ≢ 0)
+  unfolding effectOf
+  faulty-is kind = go (f c) (cellKind P f c) _ _
+    where
+      go : (v k y s : ℕ) → effectIf v k y s ≡ Faulty kind → (k ≡ kind) × (kind ≢ 0)
+      go zero k y s e = let z : _≡_ {A = ℕ} 0 1 = cc in absurd (omega arith)
+      go (suc v) zero y s e = let z : _≡_ {A = ℕ} 0 1 = cc in absurd (omega arith)
+      go (suc v) (suc k) y s e = let q : suc k ≡ kind = cc in (q, λ z. omega arith)
+
+-- ---- the work counted
+-- one cell more
+done-next : (P : Instance) (f : ℕ → ℕ) (c i k : ℕ) → done P (c + 1) f i k ≡ done P c f i k + share P i k c (f c)
+unfolding done sum
+done-next P f c i k = rw add-one
+
+-- a gate lets through no more than its term
+gate-most : (b : Bool) (x : ℕ) → gate b x ≤ x
+unfolding gate
+gate-most true x = omega arith
+gate-most false x = omega arith
+
+-- a cell does at most 15 units
+share-few : {P : Instance} → Small P → (i k d v : ℕ) → i ≢ 0 → i ≤ P .tasks → share P i k d v ≤ 15
+unfolding share
+share-few {P} small i k d v x l = omega (
+  arith,
+  gate-most (eqb v i && jobSlot P i k (slotOf P d)) (P .rate i (coreOf P d)),
+  small .few-units i (coreOf P d) x l (mod-lt d (small .regular .some-core)),
+)
+
+-- so the first c cells do at most 15 units each
+done-few : {P : Instance} → Small P → (f : ℕ → ℕ) (c i k : ℕ) → i ≢ 0 → i ≤ P .tasks → done P c f i k ≤ c * 15
+unfolding done
+done-few {P} small f c i k x l = rw (sum-const c 15) at (sum-le c (λ d. share P i k d (f d)) (λ d. 15) (λ d q. share-few small i k d (f d) x l))
+
+-- ---- one cell more
+module _ {P : Instance} {f : ℕ → ℕ} {counters : List ℕ} where
+  -- before the first cell
+  pub begins : Counted P f 0 counters → Passed P f 0 counters
+  begins n = record { clean = below-none _; counted = n }
+
+  -- the same number of cells
+  pub as-far : {c d : ℕ} → Passed P f c counters → c ≡ d → Passed P f d counters
+  as-far p e = subst (λ n. Passed P f n counters) e p
+
+  module _ {c : ℕ} (p : Passed P f c counters) where
+    -- after an idle cell
+    pub rests : effectOf P f c ≡ Nothing → Passed P f (c + 1) counters
+    rests e =
+        let z = nothing-is P f c e in
+        record {
+          clean = below-more _ c (p .clean) (kind-idle P f c z);
+          counted = record {
+            size = p .counted .size;
+            work = λ i k l q. omega (arith, p .counted .work i k l q, done-next P f c (suc i) k, share-other P (suc i) k c (f c) (λ y. omega arith));
+          };
+        }
+
+    -- at a cell that does work
+    module _ (small : Small P) (l : c < cells P) {x : ℕ} {w : Work} (e : effectOf P f c ≡ Does x w) where
+      is : (f c ≢ 0) × (cellKind P f c ≡ 0) × (x ≡ counterAt (pred (f c)) (P .job (f c) (slotOf P c))) × (w .0 ≡ P .rate (f c) (coreOf P c))
+      is = does-is P f c x w e
+
+      fine : Fine P f c
+      fine = kind-fine P f (small .regular .some-core) c (is .1)
+
+      -- its job
+      abbrev k : ℕ
+      k = P .job (f c) (slotOf P c)
+
+      -- the place of its task
+      abbrev i : ℕ
+      i = pred (f c)
+
+      few-i : i < 16
+      few-i = omega (arith, after (f c) (is .0), fine .known, small .few-tasks)
+
+      few-k : k < 1024
+      few-k = omega (
+        arith,
+        small .regular .job-there (f c) (slotOf P c) (is .0) (fine .known) (slot-there P (small .regular .some-core) c l),
+        small .few-jobs (f c),
+      )
+
+      -- its counter is one of them
+      pub counter-in : x < 16384
+      counter-in = omega (arith, is .2, few-i, few-k)
+
+      -- and holds what the cells passed do for the job
+      so-far : nth counters x ≡ done P c f (f c) k
+      so-far = ap (nth counters) (is .2) ∙ p .counted .work i k few-i few-k ∙ ap (λ v. done P c f v k) (sym (after (f c) (is .0)))
+
+      -- there is room for the work
+      pub work-fits : nth counters x + w .0 < 65536
+      work-fits = omega (
+        arith,
+        so-far,
+        done-few small f c (f c) k (is .0) (fine .known),
+        is .3,
+        small .few-units (f c) (coreOf P c) (is .0) (fine .known) (mod-lt c (small .regular .some-core)),
+        small .few-cells,
+      )
+
+      -- after it
+      pub works : Passed P f (c + 1) (set counters x (nth counters x + w .0))
+      works = record {
+        clean = below-more _ c (p .clean) (is .1);
+        counted = record { size = simp length-set (p .counted .size); work = counts };
+      }
+        where
+          counts : (a b : ℕ) → a < 16 → b < 1024 → nth (set counters x (nth counters x + w .0)) (counterAt a b) ≡ done P (c + 1) f (suc a) b
+          counts a b la lb = elim (ℕ-discrete (counterAt a b) x) [
+            | yes q ↦ ap (nth (set counters x (nth counters x + w .0))) q ∙ getD-set-same counters x _ 0 (omega (arith, counter-in, p .counted .size)) ∙ more q
+            | no y ↦ getD-set-other counters x (counterAt a b) _ 0 y ∙ omega (arith, p .counted .work a b la lb, done-next P f c (suc a) b, others y)
+          ]
+            where
+              -- the job's own counter
+              more : counterAt a b ≡ x → nth counters x + w .0 ≡ done P (c + 1) f (suc a) b
+              more q =
+                  let t : suc a ≡ f c = omega (arith, q, is .2, few-i, after (f c) (is .0)) in
+                  let j : b ≡ k = omega (arith, q, is .2, few-i) in
+                  omega (arith, so-far, is .3, done-next P f c (f c) k, share-own P (f c) c (fine .open-there (is .0)))
+                  ∙ (λ n. done P (c + 1) f (sym t n) (sym j n))
+
+              -- the cell does nothing for the others
+              others : counterAt a b ≢ x → share P (suc a) b c (f c) ≡ 0
+              others y = share-none P (suc a) b c (f c) (λ v s. y (sym (is .2 ∙ (λ n. counterAt (pred (v n)) (slot-is v s n)))))
+                where
+                  slot-is : f c ≡ suc a → T (jobSlot P (suc a) b (slotOf P c)) → P .job (f c) (slotOf P c) ≡ b
+                  slot-is v s = ap (λ u. P .job u (slotOf P c)) v ∙ slot-job P (suc a) b (slotOf P c) s .1
+
+    -- at a faulty cell
+    pub stops : c < cells P → {kind : ℕ} → effectOf P f c ≡ Faulty kind → {s j : ℕ} → slotOf P c ≡ s → coreOf P c ≡ j
+        → Scanned P f (Cell s (j + 1) kind) counters
+    unfolding toldOf cellFault
+    stops l {kind} e {s} {j} es ej =
+        let q = faulty-is P f c kind e in
+        let at : seek (cells P) (cellKind P f) ≡ c = seek-is (cells P) c (cellKind P f) l (p .clean) (λ z. q .1 (sym (q .0) ∙ z)) in
+        record {
+          told = rw (at, lt-ltb c (cells P) l) (λ i. checked (inCell (sym es i) (next i) (sym (q .0) i)));
+          counted = rw at (p .counted);
+        }
+      where
+        next : j + 1 ≡ suc (coreOf P c)
+        next = rw add-one (ap suc (sym ej))
+
+  -- after the last cell
+  pub ends : Passed P f (cells P) counters → Scanned P f Valid counters
+  unfolding toldOf cellFault
+  ends p =
+      let at : seek (cells P) (cellKind P f) ≡ cells P = seek-none (cells P) (cellKind P f) (p .clean) in
+      record {
+        told = rw (at, le-ltb (cells P) (cells P) (omega arith));
+        counted = rw at (p .counted);
+      }
+
+-- ---- the cells as the code passes them
+-- the cell is one of the table's
+cell-there : {list : TaskList} {m h : ℕ} {t : List ℕ} {slot core : ℕ} → At list m h t slot core → slot * m + core < cells (instanceFor list m h)
+unfolding instanceOf
+cell-there at = cell-in (at .ready) _ _ (at .slot-in) (at .core-in)
+
+module _ {list : TaskList} {m h : ℕ} {t : List ℕ} {slot core : ℕ} (at : At list m h t slot core) {counters : List ℕ}
+    (p : Passed (instanceFor list m h) (nth t) (slot * m + core) counters) {r : Effect} (e : r ≡ effectOf (instanceFor list m h) (nth t) (slot * m + core)) where
+  -- after an idle cell
+  pub rests-at : r ≡ Nothing → Passed (instanceFor list m h) (nth t) (slot * m + (core + 1)) counters
+  rests-at q = as-far (rests p (sym e ∙ q)) (omega arith)
+
+  -- at one that does work: its counter
+  pub counter-at : {x : ℕ} {w : Work} → r ≡ Does x w → x < 16384
+  counter-at q = counter-in p (ready-small (at .ready)) (cell-there at) (sym e ∙ q)
+
+  -- with room for the work
+  pub fits-at : {x : ℕ} {w : Work} → r ≡ Does x w → nth counters x + w .0 < 65536
+  fits-at q = work-fits p (ready-small (at .ready)) (cell-there at) (sym e ∙ q)
+
+  -- after it
+  pub works-at : {x : ℕ} {w : Work} → r ≡ Does x w → Passed (instanceFor list m h) (nth t) (slot * m + (core + 1)) (set counters x (nth counters x + w .0))
+  works-at q = as-far (works p (ready-small (at .ready)) (cell-there at) (sym e ∙ q)) (omega arith)
+
+  -- at a faulty cell
+  pub stops-at : {kind : ℕ} → r ≡ Faulty kind → Scanned (instanceFor list m h) (nth t) (Cell slot (core + 1) kind) counters
+  stops-at q = stops p (cell-there at) (sym e ∙ q) (slot-of at) (core-of at)
+
+-- after the last slot
+pub ends-at : {list : TaskList} {m h : ℕ} {t : List ℕ} → Ready list m h t → {slot : ℕ} {counters : List ℕ}
+    → Passed (instanceFor list m h) (nth t) (slot * m) counters → slot ≡ h → Scanned (instanceFor list m h) (nth t) Valid counters
+unfolding instanceOf
+ends-at {m = m} ready p e = ends (as-far p (ap (λ n. n * m) e))

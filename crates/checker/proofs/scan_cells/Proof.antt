@@ -1,0 +1,123 @@
+-- `checker::scan_cells` meets its contract. Both loops' invariant: the cells passed have no fault, and their work is counted.
+-- The measures are what is left of the slots and of the cores. Assumes nothing.
+use Prim.Native.Nat.{_+_, _*_, _-_, _≤_, _<_}
+use mathlib.Core.Logic.{⊎-elim}
+use native.Mathlib.Omega.{arith}
+use Rattle.laws.specs.Lists.{nth}
+use Rattle.checker.specs.Checks.{instanceFor, At}
+use Rattle.checker.proofs.ScanLaws.{Passed, begins, as-far, rests-at, counter-at, fits-at, works-at, stops-at, ends-at}
+use borrow.Author.Needs.{needs}
+use Rattle.checker.proofs.scan_cells.Statement.{statement}
+use Rattle.checker.proofs.scan_cells.Tie as tie
+
+abbrev Inv-loop : tie.InvT-loop
+Inv-loop list len m table done₀ slot core₀ done core = Passed (instanceFor list m (len .0)) (nth table) (slot * m + core) done × (core ≤ m)
+
+abbrev μ-loop : tie.MeasureT-loop
+μ-loop list len m table done₀ slot core₀ done core = m - core
+
+abbrev Inv-scan : tie.InvT-scan
+Inv-scan list len m table done₀ slot₀ done slot = Passed (instanceFor list m (len .0)) (nth table) (slot * m) done × (slot ≤ len .0)
+
+abbrev μ-scan : tie.MeasureT-scan
+μ-scan list len m table done₀ slot₀ done slot = len .0 - slot
+
+scan-holds : tie.Need-scan-holds Inv-loop μ-loop Inv-scan μ-scan
+scan-holds c = (as-far (begins (c .before .pre .1)) (omega arith), omega arith)
+
+loop-holds : tie.Need-loop-holds Inv-loop μ-loop Inv-scan μ-scan
+loop-holds c = (as-far (c .before .before .scan .inv .0) (omega arith), omega arith)
+
+-- the cell of a turn
+at : (c : tie.In-loop Inv-loop μ-loop Inv-scan μ-scan) → At (c .before .before .before .before .before .before .args .list) (c .before .before .before .before .before .before .args .m) (c .before .before .before .before .before .before .args .len .0) (c .before .before .before .before .before .before .args .table .now) (c .before .before .before .before .scan .slot) (c .before .loop .core)
+at c = record { ready = c .before .before .before .before .before .before .pre .0; slot-in = omega arith; core-in = c .loop-test .taken }
+
+cell-effect-requires : tie.Need-cell-effect-requires Inv-loop μ-loop Inv-scan μ-scan
+cell-effect-requires c κs = at c
+
+enum-told : tie.Need-enum-told Inv-loop μ-loop Inv-scan μ-scan
+enum-told c = search needs
+
+enum-known-effect : tie.Need-enum-known-effect Inv-loop μ-loop Inv-scan μ-scan
+enum-known-effect c = search needs
+
+-- the counter of a cell that does work
+counter : (c : tie.After-known-told Inv-loop μ-loop Inv-scan μ-scan) → c .before .effect .given .0 .0 < 16384
+counter c = counter-at (at (c .before .before .before .before)) (c .before .before .before .before .before .loop .inv .0) (c .before .before .before .cell-effect .ensures) (c .before .effect .given .1)
+
+mul-done : tie.Need-mul-done Inv-loop μ-loop Inv-scan μ-scan
+mul-done c = omega (arith, counter c)
+
+element-copy-out-done : tie.Need-element-copy-out-done Inv-loop μ-loop Inv-scan μ-scan
+element-copy-out-done c = counter c
+
+add-done : tie.Need-add-done Inv-loop μ-loop Inv-scan μ-scan
+add-done c = record { fits = fits-at (at (c .before .before .before .before .before .before)) (c .before .before .before .before .before .before .before .loop .inv .0) (c .before .before .before .before .before .cell-effect .ensures) (c .before .before .before .effect .given .1) }
+
+element-write-done : tie.Need-element-write-done Inv-loop μ-loop Inv-scan μ-scan
+element-write-done c = counter (c .before .before)
+
+enum-known-effect-2 : tie.Need-enum-known-effect-2 Inv-loop μ-loop Inv-scan μ-scan
+enum-known-effect-2 c = search needs
+
+add-t20 : tie.Need-add-t20 Inv-loop μ-loop Inv-scan μ-scan
+add-t20 c = search needs
+
+add-core : tie.Need-add-core Inv-loop μ-loop Inv-scan μ-scan
+add-core c = search needs
+
+loop-less : tie.Need-loop-less Inv-loop μ-loop Inv-scan μ-scan
+loop-less c = search needs
+
+loop-again : tie.Need-loop-again Inv-loop μ-loop Inv-scan μ-scan
+loop-again c =
+    let passed = c .before .before .before .loop .inv .0 in (
+      ⊎-elim
+          (λ w. rw (w .2) (rests-at (at (c .before .before)) passed (c .before .cell-effect .ensures) (w .1 .given .1)))
+          (λ w. rw (w .5) (works-at (at (c .before .before)) passed (c .before .cell-effect .ensures) (w .1 .given .1)))
+          (c .match .came),
+      omega arith,
+    )
+
+add-slot : tie.Need-add-slot Inv-loop μ-loop Inv-scan μ-scan
+add-slot c = search needs
+
+scan-less : tie.Need-scan-less Inv-loop μ-loop Inv-scan μ-scan
+scan-less c = search needs
+
+scan-again : tie.Need-scan-again Inv-loop μ-loop Inv-scan μ-scan
+scan-again c = (as-far (c .before .loop .inv .0) (omega arith), omega arith)
+
+returns : tie.Need-returns Inv-loop μ-loop Inv-scan μ-scan
+returns c = ends-at (c .before .before .before .before .pre .0) (c .before .before .scan .inv .0) (c .if1 .taken)
+
+returns-2 : tie.Need-returns-2 Inv-loop μ-loop Inv-scan μ-scan
+returns-2 c = stops-at (at (c .before .before .before .before)) (c .before .before .before .before .before .loop .inv .0) (c .before .before .before .cell-effect .ensures) (c .before .effect2 .given .1)
+
+pub scan-cells-spec : {M : Type 1} → statement M
+scan-cells-spec =
+    tie.close
+    (tie.spec
+    Inv-loop
+    μ-loop
+    Inv-scan
+    μ-scan
+    scan-holds
+    loop-holds
+    cell-effect-requires
+    enum-told
+    enum-known-effect
+    mul-done
+    element-copy-out-done
+    add-done
+    element-write-done
+    enum-known-effect-2
+    add-t20
+    add-core
+    loop-less
+    loop-again
+    add-slot
+    scan-less
+    scan-again
+    returns
+    returns-2)

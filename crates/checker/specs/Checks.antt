@@ -1,0 +1,100 @@
+-- What the checker tells, and what its parts answer: the first faulty cell with the work counted on the way, and the first faulty job.
+-- Assumes nothing.
+use Prim.Native.Nat.{ℕ, zero, suc, pred, _+_, _*_, _/_, _≤_, _<_}
+use mathlib.Core.Path.{_≡_}
+use mathlib.Core.Bool.{Bool, not}
+use mathlib.Core.List.{List}
+use lib.Dec.{leb, ltb, eqb}
+use lib.ListN.{length}
+use Rattle.laws.specs.Tests.{all}
+use Rattle.laws.specs.Lists.{nth, seek, firstOf}
+use Rattle.tasks.specs.declared.Task.{Task}
+use Rattle.tasks.specs.declared.TaskList.{TaskList}
+use Rattle.tasks.specs.Task.{task, rows}
+use Rattle.tasks.specs.Refusal.{unless, IsSound, tableLength}
+use Rattle.tasks.specs.Instance.{Instance, instanceOf}
+use Rattle.table.specs.Table.{cells, slotOf, coreOf, done}
+use Rattle.table.specs.Fault.{cellKind, Fault, noFault, inCell, inJob, faultIf, Checked, refused, checked}
+use Rattle.checker.specs.declared.Verdict.{Verdict}
+use Rattle.checker.specs.declared.Verdict.the-variants.{Valid, Cell, Job, Refused}
+use Rattle.checker.specs.declared.Effect.{Effect}
+use Rattle.checker.specs.declared.Effect.the-variants.{Nothing, Does, Faulty}
+
+-- the answer by 01's numbers: valid; slot, core and kind; task, job and kind; or the refusal
+unfoldable pub toldOf : Verdict → Checked
+toldOf Valid = checked noFault
+toldOf (Cell slot core kind) = checked (inCell slot core kind)
+toldOf (Job task job kind) = checked (inJob task job kind)
+toldOf (Refused number) = refused number
+
+-- what a table of h slots on m cores is checked for
+abbrev pub instanceFor : TaskList → ℕ → ℕ → Instance
+instanceFor list m h = instanceOf h m (rows list)
+
+-- none of 1 to 8 and 10 refuses: the list is sound, its tables have h slots, and t has all cells
+pub record Ready (list : TaskList) (m h : ℕ) (t : List ℕ) : Type 0 where
+  pub sound : IsSound m (rows list)
+  pub slots : h ≡ tableLength (rows list)
+  pub long : h * m ≤ length t
+
+-- and (slot, core) is one of the cells, cores counted from 0
+pub record At (list : TaskList) (m h : ℕ) (t : List ℕ) (slot core : ℕ) : Type 0 where
+  pub ready : Ready list m h t
+  pub slot-in : slot < h
+  pub core-in : core < m
+
+-- ---- cells
+-- the task v stands on none of the earlier cores of the slot that begins at cell first
+unfoldable pub freeIn : List ℕ → ℕ → ℕ → ℕ → Bool
+freeIn t first core v = all core (λ j. not (eqb (nth t (first + j)) v))
+
+-- the counter of job k of the task at a place of the list, from 0
+abbrev pub counterAt : ℕ → ℕ → ℕ
+counterAt place k = k * 16 + place
+
+-- nothing for an idle cell, a fault of its kind, or the work s for the job of counter x
+abbrev pub effectIf : ℕ → ℕ → ℕ → ℕ → Effect
+effectIf zero kind x s = Nothing
+effectIf (suc v) zero x s = Does x (record { 0 = s })
+effectIf (suc v) (suc kind) x s = Faulty (suc kind)
+
+-- what cell c does
+unfoldable pub effectOf : Instance → (ℕ → ℕ) → ℕ → Effect
+effectOf P f c = effectIf (f c) (cellKind P f c) (counterAt (pred (f c)) (P .job (f c) (slotOf P c))) (P .rate (f c) (coreOf P c))
+
+-- the counters hold what the first c cells do for each job
+pub record Counted (P : Instance) (f : ℕ → ℕ) (c : ℕ) (counters : List ℕ) : Type 0 where
+  pub size : length counters ≡ 16384
+  pub work : (i k : ℕ) → i < 16 → k < 1024 → nth counters (counterAt i k) ≡ done P c f (suc i) k
+
+-- the first faulty cell
+unfoldable pub cellFault : Instance → (ℕ → ℕ) → Fault
+cellFault P f =
+    let c = seek (cells P) (cellKind P f) in
+    faultIf (ltb c (cells P)) (inCell (slotOf P c) (suc (coreOf P c)) (cellKind P f c)) noFault
+
+-- what is told of the cells, with the work of those before the first faulty one
+pub record Scanned (P : Instance) (f : ℕ → ℕ) (r : Verdict) (counters : List ℕ) : Type 0 where
+  pub told : toldOf r ≡ checked (cellFault P f)
+  pub counted : Counted P f (seek (cells P) (cellKind P f)) counters
+
+-- ---- jobs
+-- the fault of a job of work C that has done d: 5 too little, 6 too much; 0 none
+unfoldable pub workKind : ℕ → ℕ → ℕ
+workKind C d = unless (leb C d) 5 (unless (leb d C) 6 0)
+
+-- the fault of job k of the task at a place of the list, by its counter
+unfoldable pub countedKind : List ℕ → ℕ → ℕ → ℕ → ℕ
+countedKind counters place C k = workKind C (nth counters (counterAt place k))
+
+-- the first faulty job of n tasks, by task and job number
+unfoldable pub firstJob : ℕ → (ℕ → ℕ) → (ℕ → ℕ → ℕ) → Fault
+firstJob n jobs kind =
+    let i = seek n (λ j. firstOf (jobs (suc j)) (kind (suc j))) in
+    let k = seek (jobs (suc i)) (kind (suc i)) in
+    faultIf (ltb i n) (inJob (suc i) k (kind (suc i) k)) noFault
+
+-- the same by the counters, in tables of h slots
+unfoldable pub jobFaultIn : List ℕ → ℕ → List Task → Fault
+jobFaultIn counters h ts =
+    firstJob (length ts) (λ i. h / task ts i .period .0) (λ i. countedKind counters (pred i) (task ts i .work .0))

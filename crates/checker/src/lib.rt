@@ -1,0 +1,201 @@
+// The checker of tables: refusals 1 to 8 and 10, then the first fault.
+ghost use mathlib.Core.Path.{_≡_};
+ghost use Prim.Native.Nat.{_+_, _*_, _≤_, _<_};
+ghost use lib.ListN.{length};
+ghost use Rattle.laws.specs.Lists.{nth, seek};
+ghost use Rattle.tasks.specs.Task.{rows};
+ghost use Rattle.tasks.specs.Refusal.{Periods};
+ghost use Rattle.table.specs.Fault.{check, checked};
+ghost use Rattle.checker.specs.Checks.{toldOf, instanceFor, Ready, At, freeIn, counterAt, effectOf, Counted, Scanned, workKind, countedKind, jobFaultIn};
+use tasks::MAX_TASKS;
+use tasks::Slots;
+use tasks::Soundness;
+use tasks::TaskList;
+use tasks::Window;
+use tasks::Work;
+
+// What the checker tells: that the table is valid; slot, core and kind of a faulty cell; task, job and kind of a faulty job; or a refusal.
+pub enum Verdict {
+    Valid,
+    Cell(u16, u8, u8),
+    Job(u8, u16, u8),
+    Refused(u8),
+}
+
+// The refusal of a buffer shorter than H × m.
+pub const SHORT_BUFFER: u8 = 10;
+
+// The kinds of fault, by 01's numbers.
+pub const UNKNOWN_TASK: u8 = 1;
+
+pub const TASK_CLOSED: u8 = 2;
+
+pub const RATE_0: u8 = 3;
+
+pub const ALREADY_IN_SLOT: u8 = 4;
+
+pub const TOO_LITTLE_WORK: u8 = 5;
+
+pub const TOO_MUCH_WORK: u8 = 6;
+
+const IDLE: u8 = 0;
+
+// Whether a task stands on none of the earlier cores of the slot that begins at cell `first`.
+fn free(table: &[u8], first: usize, core: u8, task: u8) -> bool
+    requires { ⌜ first + core ≤ length (now table) ⌝ }
+    ensures { λ r. ⌜ r ≡ freeIn (now (table .entry)) first core task ⌝ }
+{
+    for j in 0..core {
+        if table[first + (j as usize)] == task {
+            return false;
+        }
+    }
+    true
+}
+
+// The counter of a job of the task at a place of the list, from 0: in the job's row of 16.
+fn counter_of(place: u8, job: u16) -> usize
+    ensures { λ r. ⌜ r ≡ counterAt place job ⌝ }
+{
+    (job as usize) * (MAX_TASKS as usize) + (place as usize)
+}
+
+// What a cell does: nothing, so much work for the job at a counter, or a fault of a kind.
+enum Effect {
+    Nothing,
+    Does(usize, Work),
+    Faulty(u8),
+}
+
+// The effect of a cell.
+fn cell_effect(list: TaskList, len: Slots, m: u8, table: &[u8], slot: u16, core: u8) -> Effect
+    requires { ⌜ At list m (len .0) (now table) slot core ⌝ }
+    ensures { λ r. ⌜ r ≡ effectOf (instanceFor list m (len .0)) (nth (now (table .entry))) (slot * m + core) ⌝ }
+{
+    let first = (slot as usize) * (m as usize);
+    let value = table[first + (core as usize)];
+    if value == IDLE {
+        return Effect::Nothing;
+    }
+    if list.n < value {
+        return Effect::Faulty(UNKNOWN_TASK);
+    }
+    let place = value - 1;
+    let task = tasks::task_at(list, place as usize);
+    let window = tasks::open_in(len, task, Slots(slot));
+    match window {
+        Window::Closed => Effect::Faulty(TASK_CLOSED),
+        Window::Open(job) => {
+            let rates = task.rates.0;
+            let rate = rates[core as usize];
+            if rate == 0 {
+                return Effect::Faulty(RATE_0);
+            }
+            if !free(table, first, core, value) {
+                return Effect::Faulty(ALREADY_IN_SLOT);
+            }
+            Effect::Does(counter_of(place, job), tasks::work_in(rate, Slots(1)))
+        }
+    }
+}
+
+// The first faulty cell, in table order; `done` counts the work of the cells before it.
+fn scan_cells(list: TaskList, len: Slots, m: u8, table: &[u8], done: &mut [u16; 16384]) -> Verdict
+    requires { ⌜ Ready list m (len .0) (now table) × Counted (instanceFor list m (len .0)) (nth (now table)) 0 (now done) ⌝ }
+    ensures { λ r. ⌜ Scanned (instanceFor list m (len .0)) (nth (now (table .entry))) r (now (done .exit)) ⌝ }
+{
+    let mut slot: u16 = 0;
+    'scan: loop {
+        if slot == len.0 {
+            break 'scan Verdict::Valid;
+        }
+        for core in 0..m {
+            let effect = cell_effect(list, len, m, table, slot, core);
+            match effect {
+                Effect::Nothing => {}
+                Effect::Does(counter, work) => {
+                    done[counter] += work.0;
+                }
+                Effect::Faulty(kind) => {
+                    break 'scan Verdict::Cell(slot, core + 1, kind);
+                }
+            }
+        }
+        slot += 1;
+    }
+}
+
+// The kind of fault of a job with so much work done; 0 if it is exactly its work.
+fn job_kind(work: Work, done: Work) -> u8
+    ensures { λ r. ⌜ r ≡ workKind (work .0) (done .0) ⌝ }
+{
+    if done.0 < work.0 {
+        return TOO_LITTLE_WORK;
+    }
+    if work.0 < done.0 {
+        return TOO_MUCH_WORK;
+    }
+    0
+}
+
+// The kind of fault of a job of the task at a place of the list.
+fn counted_kind(done: &[u16; 16384], place: u8, work: Work, job: u16) -> u8
+    requires { ⌜ (place < 16) × (job < 1024) ⌝ }
+    ensures { λ r. ⌜ r ≡ countedKind (now (done .entry)) place (work .0) job ⌝ }
+{
+    job_kind(work, Work(done[counter_of(place, job)]))
+}
+
+// The first faulty job of the task at a place of the list; the number of its jobs if none is.
+fn faulty_job(done: &[u16; 16384], place: u8, work: Work, jobs: u16) -> u16
+    requires { ⌜ (place < 16) × (jobs ≤ 1024) ⌝ }
+    ensures { λ r. ⌜ r ≡ seek jobs (countedKind (now (done .entry)) place (work .0)) ⌝ }
+{
+    let mut job: u16 = 0;
+    while job < jobs {
+        if counted_kind(done, place, work, job) != 0 {
+            return job;
+        }
+        job += 1;
+    }
+    job
+}
+
+// The first faulty job, by task and job number.
+fn scan_jobs(list: TaskList, len: Slots, done: &[u16; 16384]) -> Verdict
+    requires { ⌜ (list .n ≤ 16) × (len .0 ≤ 1024) × Periods (rows list) ⌝ }
+    ensures { λ r. ⌜ toldOf r ≡ checked (jobFaultIn (now (done .entry)) (len .0) (rows list)) ⌝ }
+{
+    let n = list.n;
+    for place in 0..n {
+        let task = tasks::task_at(list, place as usize);
+        let jobs = len.0 / task.period.0;
+        let work = task.work;
+        let job = faulty_job(done, place, work, jobs);
+        if job < jobs {
+            return Verdict::Job(place + 1, job, counted_kind(done, place, work, job));
+        }
+    }
+    Verdict::Valid
+}
+
+// Refusals 1 to 8 and 10, or the first fault. Cells past H × m are not looked at.
+pub fn check_table(list: TaskList, m: u8, table: &[u8]) -> Verdict
+    ensures { λ r. ⌜ toldOf r ≡ check m (rows list) (now (table .entry)) ⌝ }
+{
+    let soundness = tasks::test_list(list, m);
+    match soundness {
+        Soundness::Refused(number) => Verdict::Refused(number),
+        Soundness::Sound(len) => {
+            if table.len() < (len.0 as usize) * (m as usize) {
+                return Verdict::Refused(SHORT_BUFFER);
+            }
+            let mut done: [u16; 16384] = [0; 16384];
+            let cells = scan_cells(list, len, m, table, &mut done);
+            match cells {
+                Verdict::Valid => scan_jobs(list, len, &done),
+                _ => cells,
+            }
+        }
+    }
+}
