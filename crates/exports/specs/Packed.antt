@@ -4,6 +4,7 @@ use Prim.Native.Nat.{ℕ, _+_, _*_, _^_}
 use mathlib.Core.Path.{_≡_}
 use mathlib.Core.List.{List}
 use Rattle.tasks.specs.declared.TaskList.{TaskList}
+use Rattle.table.specs.Fault.{noFault, inCell, inJob, Checked, refused, checked}
 use Rattle.rules.specs.Search.{Searched}
 
 -- a list as numbers, from its arrays
@@ -15,3 +16,14 @@ listed n offset work deadline period rates =
 pub record SearchedAs (r : ℕ) (buffer : List ℕ) (s : Searched) : Type 0 where
   pub answer : r ≡ s .verdict * 2 ^ 32 + s .tries
   pub left : buffer ≡ s .buffer
+
+-- three numbers of a class, as one
+abbrev pub packedAs : ℕ → ℕ → ℕ → ℕ → ℕ
+packedAs class a b c = class * 2 ^ 48 + a * 2 ^ 32 + b * 2 ^ 16 + c
+
+-- the checker's word as one number
+unfoldable pub checkedAs : Checked → ℕ
+checkedAs (checked noFault) = 0
+checkedAs (checked (inCell slot core kind)) = packedAs 1 slot core kind
+checkedAs (checked (inJob task job kind)) = packedAs 2 task job kind
+checkedAs (refused number) = packedAs 3 0 0 number

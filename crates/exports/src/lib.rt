@@ -1,11 +1,12 @@
 // The functions that C and Rust link: numbers, arrays of fixed length, and slices as pointer and length.
 ghost use mathlib.Core.Path.{_≡_};
-ghost use Prim.Native.Nat.{_+_, _*_, _^_};
+ghost use Prim.Native.Nat.{_≤_};
 ghost use Rattle.tasks.specs.Task.{rows};
+ghost use Rattle.table.specs.Fault.{check as checkOf};
 ghost use Rattle.rules.specs.Search.{search as searchOf};
-ghost use Rattle.exports.specs.Packed.{listed, SearchedAs};
-
+ghost use Rattle.exports.specs.Packed.{listed, SearchedAs, packedAs, checkedAs};
 use tasks::TaskList;
+use checker::Verdict;
 
 // The search of n tasks, each number in an array of its own, and four rates a task: verdict * 2^32 + tries.
 #[no_mangle]
@@ -33,4 +34,44 @@ pub extern "C" fn xiphomera_search(
     };
     let answer = search::search(list, cores, engine, limit, table);
     (answer.verdict as u64) * 4294967296 + answer.tries as u64
+}
+
+// Three numbers of a class, as one.
+fn packed(class: u64, a: u16, b: u16, c: u8) -> u64
+    requires { ⌜ class ≤ 3 ⌝ }
+    ensures { λ r. ⌜ r ≡ packedAs class a b c ⌝ }
+{
+    class * 281474976710656 + (a as u64) * 4294967296 + (b as u64) * 65536 + (c as u64)
+}
+
+// The check of a table for the list that the arrays make: class * 2^48 + a * 2^32 + b * 2^16 + c.
+// Class 0 is valid; 1 a faulty cell: slot, core, kind; 2 a faulty job: task, job, kind; 3 a refusal: 0, 0, its number.
+#[no_mangle]
+pub extern "C" fn xiphomera_check(
+    n: u8,
+    offset: &[u16; 16],
+    work: &[u16; 16],
+    deadline: &[u16; 16],
+    period: &[u16; 16],
+    rates: &[u8; 64],
+    cores: u8,
+    table: &[u8],
+) -> u64
+    ensures { λ r. ⌜ r ≡ checkedAs (checkOf cores (rows (listed n (now (offset .entry)) (now (work .entry)) (now (deadline .entry)) (now (period .entry)) (now (rates .entry)))) (now (table .entry))) ⌝ }
+{
+    let list = TaskList {
+        n,
+        offset: *offset,
+        work: *work,
+        deadline: *deadline,
+        period: *period,
+        rates: *rates,
+    };
+    let verdict = checker::check_table(list, cores, table);
+    match verdict {
+        Verdict::Valid => 0,
+        Verdict::Cell(slot, core, kind) => packed(1, slot, core as u16, kind),
+        Verdict::Job(task, job, kind) => packed(2, task as u16, job, kind),
+        Verdict::Refused(number) => packed(3, 0, 0, number),
+    }
 }

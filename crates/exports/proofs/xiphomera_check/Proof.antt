@@ -1,0 +1,80 @@
+-- `exports::xiphomera_check` meets its contract: each case of the checker's answer is told as its number.
+-- Assumes nothing.
+use mathlib.Core.Path.{_≡_, sym, ap, _∙_}
+use Rattle.table.specs.Fault.{Checked}
+use Rattle.checker.specs.declared.Verdict.{Verdict}
+use Rattle.checker.specs.declared.Verdict.the-variants.{Valid, Cell, Job, Refused}
+use Rattle.checker.specs.Checks.{toldOf}
+use Rattle.exports.specs.Packed.{checkedAs}
+use borrow.Author.Needs.{needs}
+use Rattle.exports.proofs.xiphomera_check.Statement.{statement}
+use Rattle.exports.proofs.xiphomera_check.Tie as tie
+
+-- a case of the answer, as the definition's number
+as-told : (w : Verdict) {v : Verdict} (x : Checked) → v ≡ w → toldOf v ≡ x → checkedAs (toldOf w) ≡ checkedAs x
+as-told w x e h = ap checkedAs (ap toldOf (sym e) ∙ h)
+
+check-table-requires : tie.Need-check-table-requires
+check-table-requires c κs = search needs
+
+enum-told : tie.Need-enum-told
+enum-told c = search needs
+
+enum-known-verdict : tie.Need-enum-known-verdict
+enum-known-verdict c = search needs
+
+cast-packed : tie.Need-cast-packed
+cast-packed c = search needs
+
+packed-requires : tie.Need-packed-requires
+packed-requires c κs = search needs
+
+enum-known-verdict-2 : tie.Need-enum-known-verdict-2
+enum-known-verdict-2 c = search needs
+
+cast-packed-2 : tie.Need-cast-packed-2
+cast-packed-2 c = search needs
+
+packed-requires-2 : tie.Need-packed-requires-2
+packed-requires-2 c κs = search needs
+
+enum-known-verdict-3 : tie.Need-enum-known-verdict-3
+enum-known-verdict-3 c = search needs
+
+packed-requires-3 : tie.Need-packed-requires-3
+packed-requires-3 c κs = search needs
+
+returns : tie.Need-returns
+unfolding toldOf checkedAs
+returns c = as-told Valid _ (c .enum-told .given .1) (c .before .before .check-table .ensures)
+
+returns-2 : tie.Need-returns-2
+unfolding toldOf checkedAs
+returns-2 c = c .packed .ensures ∙ as-told (Cell _ _ _) _ (c .before .before .verdict .given .1) (c .before .before .before .before .check-table .ensures)
+
+returns-3 : tie.Need-returns-3
+unfolding toldOf checkedAs
+returns-3 c = c .packed2 .ensures ∙ as-told (Job _ _ _) _ (c .before .before .verdict2 .given .1) (c .before .before .before .before .check-table .ensures)
+
+returns-4 : tie.Need-returns-4
+unfolding toldOf checkedAs
+returns-4 c = c .packed3 .ensures ∙ as-told (Refused _) _ (c .before .before .verdict3 .given .1) (c .before .before .before .before .check-table .ensures)
+
+pub xiphomera-check-spec : {M : Type 1} → statement M
+xiphomera-check-spec =
+    tie.close
+    (tie.spec
+    check-table-requires
+    enum-told
+    enum-known-verdict
+    cast-packed
+    packed-requires
+    enum-known-verdict-2
+    cast-packed-2
+    packed-requires-2
+    enum-known-verdict-3
+    packed-requires-3
+    returns
+    returns-2
+    returns-3
+    returns-4)
