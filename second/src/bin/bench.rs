@@ -2,9 +2,10 @@
 //! out another way for speed, over the same lists in one process.
 
 #[path = "../proved.rs"]
-#[allow(dead_code)] // only the search is timed
+#[allow(dead_code)] // the search and the checker are timed
 mod proved;
 
+use second::check::first_fault;
 use second::random::Random;
 use second::tasks::{Problem, Task, MOST_CELLS, MOST_CORES, MOST_SLOTS, MOST_TASKS};
 use second::verdict::Ending;
@@ -74,6 +75,10 @@ fn main() {
         }
     }
 
+    let [ordinary, proved] = cells_checked();
+    println!("millions of cells checked per second, a valid table of {MOST_CELLS} cells:");
+    println!("  ordinary Rust {ordinary:.1}, proved {proved:.1}");
+
     println!("bytes of stack for a table of {MOST_CELLS} cells:");
     for (name, stack) in NAMES.into_iter().zip(WALKS.map(stack_taken)) {
         println!("  {name} {stack}");
@@ -129,6 +134,26 @@ fn cost(all: &[Timed]) -> [f64; 3] {
     from_fn(|walk| {
         let time: Duration = all.iter().map(|timed| timed.least[walk]).sum();
         time.as_nanos() as f64 / f64::from(tries)
+    })
+}
+
+/// Millions of cells that the ordinary and the proved checker check per second.
+fn cells_checked() -> [f64; 2] {
+    let problem = full_list();
+    let mut table = vec![0; MOST_CELLS];
+    fastest(&problem, &mut table);
+    let checkers: [fn(&Problem, &[u8]) -> bool; 2] = [
+        |problem, table| first_fault(problem, table) == Ok(None),
+        |problem, table| proved::check(problem, table) == [0; 4],
+    ];
+    checkers.map(|valid| {
+        let least = (0..100 * ROUNDS).map(|_| {
+            let start = Instant::now();
+            assert!(valid(&problem, black_box(&table)));
+            start.elapsed()
+        });
+        let least = least.min().expect("some rounds");
+        MOST_CELLS as f64 / least.as_secs_f64() / 1e6
     })
 }
 
