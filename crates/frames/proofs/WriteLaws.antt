@@ -43,12 +43,14 @@ module _ (out₀ : List ℕ) (at : ℕ) (frame : List ℕ) where
       whole = sym (digits-append (take k frame) (nth frame k ∷ [])) ∙ ap digits (sym (take-suc frame k 0 l) ∙ ap (λ n. take n frame) (sym (add-one k)))
 
   -- and the line feed behind the last
-  pub line-end : (n : ℕ) (out : List ℕ) → n ≤ length frame → out ≡ sets out₀ at (digits (take n frame))
-    → set out (at + n * 2) 10 ≡ sets out₀ at (lineOf (take n frame))
+  pub line-end : (k n m : ℕ) (out : List ℕ) → k ≡ n → n ≡ m → n ≤ length frame → out ≡ sets out₀ at (digits (take k frame))
+    → set out (at + n * 2) 10 ≡ sets out₀ at (lineOf (take m frame))
   unfolding lineOf
-  line-end n out l e =
-      ap (λ o. set o (at + n * 2) 10) e ∙ ap (λ j. set (sets out₀ at (digits (take n frame))) (at + j) 10) (sym size)
+  line-end k n m out q r l e =
+      ap (λ o. set o (at + n * 2) 10) (e ∙ ap (λ x. sets out₀ at (digits (take x frame))) q)
+      ∙ ap (λ j. set (sets out₀ at (digits (take n frame))) (at + j) 10) (sym size)
       ∙ sym (sets-append (digits (take n frame)) (10 ∷ []) out₀ at)
+      ∙ ap (λ x. sets out₀ at (lineOf (take x frame))) r
     where
       size : length (digits (take n frame)) ≡ n * 2
       size = digits-length (take n frame) ∙ ap (λ n. n * 2) (length-take-le n frame l)

@@ -1,87 +1,84 @@
+-- `frames::put_frame` meets its contract. The loop's invariant: the digits of the bytes passed stand from `at` on. The measure is what is left of the frame.
+-- Assumes nothing.
+use Prim.Native.Nat.{_+_, _*_, _-_, _≤_}
+use mathlib.Core.Path.{_≡_, refl, sym, ap, _∙_}
+use native.Mathlib.Omega.{arith}
+use borrow.Author.Needs.{needs}
+use lib.ListN.{length, take, length-set}
+use lib.Seq.{sets, length-sets}
+use Rattle.frames.specs.Write.{digits}
+use Rattle.frames.proofs.WriteLaws.{one-byte, line-end}
 use Rattle.frames.proofs.put_frame.Statement.{statement}
 use Rattle.frames.proofs.put_frame.Tie as tie
-use Rattle.frames.proofs.put_frame.Reads as reads
-use Rattle.frames.proofs.put_frame.Lts as lts
-use Rattle.frames.proofs.length_of.Reads as length-of-reads
-use Rattle.frames.proofs.put_byte.Reads as put-byte-reads
 
 abbrev Inv-loop : tie.InvT-loop
-Inv-loop out₀ at frame count k₀ out k = ?
+Inv-loop out₀ at frame count k₀ out k = (k ≤ count) × (length out ≡ length out₀) × (out ≡ sets out₀ at (digits (take k frame)))
 
 abbrev μ-loop : tie.MeasureT-loop
-μ-loop out₀ at frame count k₀ out k = ?
+μ-loop out₀ at frame count k₀ out k = count - k
 
--- src/lib.rt:128:27
 array-read-length-of : tie.Need-array-read-length-of Inv-loop μ-loop
-array-read-length-of c = ?
+array-read-length-of c = search needs
 
--- src/lib.rt:128:9
 length-of-requires : tie.Need-length-of-requires Inv-loop μ-loop
-length-of-requires c κs = ?
+length-of-requires c κs = search needs
 
--- src/lib.rt:130:5
 loop-holds : tie.Need-loop-holds Inv-loop μ-loop
-loop-holds c = ?
+unfolding digits
+loop-holds c = (omega arith, refl, refl)
 
--- src/lib.rt:131:28
 mul-put-byte : tie.Need-mul-put-byte Inv-loop μ-loop
-mul-put-byte c = ?
+mul-put-byte c = search needs
 
--- src/lib.rt:131:23
 add-put-byte : tie.Need-add-put-byte Inv-loop μ-loop
-add-put-byte c = ?
+add-put-byte c = search needs
 
--- src/lib.rt:131:35
 array-read-put-byte : tie.Need-array-read-put-byte Inv-loop μ-loop
-array-read-put-byte c = ?
+array-read-put-byte c = search needs
 
--- src/lib.rt:131:9
 put-byte-requires : tie.Need-put-byte-requires Inv-loop μ-loop
-put-byte-requires c κs = ?
+put-byte-requires c κs = omega (arith, c .before .before .loop .inv .1)
 
--- src/lib.rt:132:9
 add-k : tie.Need-add-k Inv-loop μ-loop
-add-k c = ?
+add-k c = search needs
 
--- src/lib.rt:130:5
 loop-less : tie.Need-loop-less Inv-loop μ-loop
-loop-less c = ?
+loop-less c = search needs
 
--- src/lib.rt:130:5
 loop-again : tie.Need-loop-again Inv-loop μ-loop
-loop-again c = ?
+loop-again c = 
+    let a = c .before .before .before .before .before .before .before .before .args in
+    let e = one-byte (a .out .now) (a .at) (a .t3) (c .before .before .before .before .before .loop .k) _ _ (omega arith)
+        (c .before .before .before .before .before .loop .inv .2) (c .before .before .put-byte .ensures) in
+    (omega arith, ap length e ∙ simp length-sets, e)
 
--- src/lib.rt:134:14
 mul-out : tie.Need-mul-out Inv-loop μ-loop
-mul-out c = ?
+mul-out c = search needs
 
--- src/lib.rt:134:9
 add-out : tie.Need-add-out Inv-loop μ-loop
-add-out c = ?
+add-out c = search needs
 
--- src/lib.rt:134:5
 slice-write-out : tie.Need-slice-write-out Inv-loop μ-loop
-slice-write-out c = ?
+slice-write-out c = omega arith
 
--- src/lib.rt:135:11
 mul-result : tie.Need-mul-result Inv-loop μ-loop
-mul-result c = ?
+mul-result c = search needs
 
--- src/lib.rt:135:11
 add-result : tie.Need-add-result Inv-loop μ-loop
-add-result c = ?
+add-result c = search needs
 
--- src/lib.rt:135:5
 add-result-2 : tie.Need-add-result-2 Inv-loop μ-loop
-add-result-2 c = ?
+add-result-2 c = search needs
 
--- src/lib.rt:124:1
 same-length : tie.Need-same-length Inv-loop μ-loop
-same-length c = ?
+same-length c = simp length-set (omega arith)
 
--- src/lib.rt:124:1
 returns : tie.Need-returns Inv-loop μ-loop
-returns c = ?
+returns c =
+    let a = c .before .before .before .before .args in
+    let n = c .before .before .length-of in
+    (ap (λ x. a .at + (x * 2 + 1)) (n .ensures .0),
+    line-end (a .out .now) (a .at) (a .t3) (c .before .loop .k) _ _ _ (omega arith) (n .ensures .0) (omega arith) (c .before .loop .inv .2))
 
 pub put-frame-spec : {M : Type 1} → statement M
 put-frame-spec =
