@@ -1,15 +1,17 @@
 -- Lines as they are written, byte by byte, over what was there.
 -- Assumes nothing.
 use Prim.Native.Nat.{ℕ, zero, suc, _+_, _*_, _≤_, _<_}
-use native.Mathlib.Nat.{add-zero, add-suc, suc-add}
+use native.Mathlib.Nat.{add-zero, mul-le-mul-right, add-mul}
 use native.Mathlib.Numerals.{add-one}
 use native.Mathlib.Omega.{arith}
 use mathlib.Core.Path.{_≡_, refl, sym, ap, _∙_}
+use mathlib.Core.Bool.{Bool, true, false, _&&_}
 use mathlib.Core.List.{List, [], _∷_, _++_}
 use lib.ListN.{length, set, take, length-append}
 use lib.Seq.{sets, take-suc, length-take-le}
 use Rattle.laws.specs.Lists.{nth}
-use Rattle.frames.specs.Write.{digits, lineOf}
+use Rattle.frames.specs.Frame.{lengthOfKind}
+use Rattle.frames.specs.Write.{digits, lineOf, cellAt, slotFrame, slotLines, canWrite}
 
 -- one run of stores behind another
 pub sets-append : (xs ys l : List ℕ) (i : ℕ) → sets l i (xs ++ ys) ≡ sets (sets l i xs) (i + length xs) ys
@@ -54,3 +56,50 @@ module _ (out₀ : List ℕ) (at : ℕ) (frame : List ℕ) where
     where
       size : length (digits (take n frame)) ≡ n * 2
       size = digits-length (take n frame) ∙ ap (λ n. n * 2) (length-take-le n frame l)
+
+-- the line of a slot has 15 bytes
+slot-length : (m : ℕ) (table : List ℕ) (t : ℕ) → length (lineOf (slotFrame m table t)) ≡ 15
+unfolding lineOf digits slotFrame
+slot-length m table t = refl
+
+pub slots-length : (n m : ℕ) (table : List ℕ) → length (slotLines n m table) ≡ n * 15
+unfolding slotLines
+slots-length zero m table = refl
+slots-length (suc n) m table =
+    omega (arith, length-append (slotLines n m table) (lineOf (slotFrame m table n)), slots-length n m table, slot-length m table n)
+
+-- the cells of a slot lie within the table's
+pub cells-within : (t n m cells : ℕ) → t < n → n * m ≤ cells → t * m + m ≤ cells
+cells-within t n m cells l h = omega (arith, mul-le-mul-right m (+1 l), add-mul t 1 m)
+  where
+    +1 : t < n → t + 1 ≤ n
+    +1 l = omega arith
+
+-- a frame of known kind takes two digits a byte and a line feed
+pub frame-fits : (f : List ℕ) (k next room : ℕ) → nth f 0 ≡ k → k < 8 → next + (lengthOfKind k * 2 + 1) ≤ room
+    → (nth f 0 < 8) × (next + (lengthOfKind (nth f 0) * 2 + 1) ≤ room)
+frame-fits f k next room e l h = rw e (l, h)
+
+pub frame-next : (f : List ℕ) (k next r : ℕ) → nth f 0 ≡ k → r ≡ next + (lengthOfKind (nth f 0) * 2 + 1) → r ≡ next + (lengthOfKind k * 2 + 1)
+frame-next f k next r e h = h ∙ ap (λ j. next + (lengthOfKind j * 2 + 1)) e
+
+-- one more slot, with its frame filled up to 10 bytes
+pub one-slot : (out₀ : List ℕ) (at t m : ℕ) (table out out′ f : List ℕ) (next : ℕ)
+    → out ≡ sets out₀ at (slotLines t m table) → next ≡ at + t * 15 → f ≡ slotFrame m table t ++ (0 ∷ 0 ∷ 0 ∷ [])
+    → out′ ≡ sets out next (lineOf (take (lengthOfKind (nth f 0)) f)) → out′ ≡ sets out₀ at (slotLines (t + 1) m table)
+unfolding slotLines slotFrame
+one-slot out₀ at t m table out out′ f next e n q e′ =
+    e′ ∙ ap (λ g. sets out next (lineOf (take (lengthOfKind (nth g 0)) g))) q
+    ∙ ap (λ o. sets o next line) e ∙ ap (λ j. sets (sets out₀ at (slotLines t m table)) j line) (n ∙ ap (λ j. at + j) (sym (slots-length t m table)))
+    ∙ sym (sets-append (slotLines t m table) line out₀ at) ∙ ap (λ k. sets out₀ at (slotLines k m table)) (sym (add-one t))
+  where
+    line : List ℕ
+    line = lineOf (slotFrame m table t)
+
+-- ---- whether an answer can be written
+-- a test after those that passed
+first-fails : (a b : Bool) → a ≡ false → false ≡ a && b
+first-fails a b e = rw e
+
+then : (a b : Bool) → a ≡ true → b ≡ a && b
+then a b e = rw e
