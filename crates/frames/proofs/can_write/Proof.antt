@@ -1,27 +1,39 @@
+-- `frames::can_write` meets its contract: its tests are the definition's, one by one.
+-- Assumes nothing.
+use mathlib.Core.Path.{sym}
+use mathlib.Core.Bool.{and-true}
+use native.Mathlib.Nat.{mul-le-mul}
+use native.Mathlib.Omega.{arith}
+use borrow.Author.Needs.{needs}
+use borrow.Author.Tests.{le-leb, lt-leb}
+use Rattle.frames.specs.Write.{canWrite}
 use Rattle.frames.proofs.can_write.Statement.{statement}
 use Rattle.frames.proofs.can_write.Tie as tie
-use Rattle.frames.proofs.can_write.Reads as reads
-use Rattle.frames.proofs.can_write.Lts as lts
 
--- src/lib.rt:209:9
 returns : tie.Need-returns
-returns c = ?
+unfolding canWrite
+returns c = rw (lt-leb (c .before .args .slots) 1024 (c .if1 .taken))
 
--- src/lib.rt:212:9
 returns-2 : tie.Need-returns-2
-returns-2 c = ?
+unfolding canWrite
+returns-2 c =
+    let a = c .before .before .args in
+    rw (le-leb (a .slots) 1024 (c .before .if1 .left), lt-leb (a .m) 4 (c .if2 .taken))
 
--- src/lib.rt:214:16
 mul-if3 : tie.Need-mul-if3
-mul-if3 c = ?
+mul-if3 c = omega (arith, mul-le-mul (c .before .if1 .left) (c .if2 .left))
 
--- src/lib.rt:215:9
 returns-3 : tie.Need-returns-3
-returns-3 c = ?
+unfolding canWrite
+returns-3 c =
+    let a = c .before .before .before .args in
+    rw (le-leb (a .slots) 1024 (c .before .before .if1 .left), le-leb (a .m) 4 (c .before .if2 .left), lt-leb _ (a .cells) (c .if3 .taken))
 
--- src/lib.rt:205:1
 returns-4 : tie.Need-returns-4
-returns-4 c = ?
+unfolding canWrite
+returns-4 c =
+    let a = c .before .before .before .args in
+    rw (le-leb (a .slots) 1024 (c .before .before .if1 .left), le-leb (a .m) 4 (c .before .if2 .left), le-leb _ (a .cells) (c .if3 .left)) (sym (and-true _))
 
 pub can-write-spec : {M : Type 1} → statement M
 can-write-spec = tie.close (tie.spec returns returns-2 mul-if3 returns-3 returns-4)
