@@ -12,7 +12,7 @@ use borrow.Author.Tests.{lt-ltb, le-ltb, eq-eqb, ne-eqb}
 use lib.Dec.{eqb, ltb, leb·suc-suc}
 use lib.ListN.{length, getD, set, take, drop, length-take, length-drop, List·getD-eq-default}
 use lib.Seq.{slice, take-all, slice-empty, slice-cons, length-slice, getD-drop, getD-take, drop-drop}
-use Rattle.laws.specs.Lists.{nth, tab}
+use Rattle.laws.specs.Lists.{nth}
 use Rattle.laws.proofs.SumLaws.{lt-or-ge}
 use Rattle.frames.specs.Lines.{isDigit, digitOf, pairs, bytesOf, Line, before, lines, lineAt, LineEnd}
 use Rattle.frames.specs.Read.{filled}
@@ -115,11 +115,6 @@ byte-at (a ∷ b ∷ s) (suc k) h =
 
 -- ---- a frame, byte by byte
 module _ (bytes : List ℕ) where
-  -- before the first
-  pub filled-none : (zeros : List ℕ) → zeros ≡ tab 10 (λ j. 0) → zeros ≡ filled (take 0 bytes)
-  unfolding filled tab
-  filled-none zeros e = e
-
   -- one more
   pub filled-more : (frame : List ℕ) (k x : ℕ) → k < 10 → frame ≡ filled (take k bytes) → x ≡ nth bytes k → set frame k x ≡ filled (take (k + 1) bytes)
   unfolding filled

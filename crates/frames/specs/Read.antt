@@ -76,12 +76,24 @@ isKind Known = true
 isKind Misplaced = true
 isKind Unknown = false
 
--- 21 no line feed, not pairs of 0-9A-F, or empty; 22 unknown kind; 23 wrong length
+-- it stands in a problem
+abbrev pub inProblem : Sort → Bool
+inProblem Known = true
+inProblem Misplaced = false
+inProblem Unknown = false
+
+-- 22 unknown kind; 23 wrong length; 24 out of place, as a kind of an answer always is
+unfoldable pub frameRefusal : ℕ → ℕ → ℕ
+frameRefusal kind count =
+    unless (isKind (sortOf kind)) 22
+    (unless (eqb count (lengthOfKind kind)) 23
+    (unless (inProblem (sortOf kind)) 24 0))
+
+-- 21 no line feed, not pairs of 0-9A-F, or empty; then its frame
 unfoldable pub lineRefusal : Line → ℕ
 lineRefusal l =
     unless (every (l .ended ∷ pairs (l .text) ∷ not (eqb (length (l .text)) 0) ∷ [])) 21
-    (unless (isKind (sortOf (nth (bytesOf (l .text)) 0))) 22
-    (unless (eqb (length (bytesOf (l .text))) (lengthOfKind (nth (bytesOf (l .text)) 0))) 23 0))
+    (frameRefusal (nth (bytesOf (l .text)) 0) (length (bytesOf (l .text))))
 
 -- 24 out of place, or a task number above 16
 unfoldable pub placeRefusal : State → List ℕ → ℕ

@@ -8,7 +8,7 @@ ghost use Rattle.laws.specs.Lists.{nth};
 ghost use Rattle.frames.specs.Frame.{lengthOfKind, sortOf};
 ghost use Rattle.frames.specs.Lines.{isDigit, digitOf, pairs, bytesOf, lines, LineEnd, lineAt};
 ghost use Rattle.tasks.specs.declared.Task.{Task};
-ghost use Rattle.frames.specs.Read.{State, start, mayFollow, rightNumber, inPlace, taskOf, taken, lineRefusal, readLines, readProblem, listOf, blankOf, heldBy, told, filled};
+ghost use Rattle.frames.specs.Read.{State, start, mayFollow, rightNumber, inPlace, taskOf, taken, frameRefusal, lineRefusal, readLines, readProblem, listOf, blankOf, heldBy, told, filled};
 ghost use Rattle.frames.specs.Write.{hexOf, digits, lineOf, verdictFrame, cellAt, slotFrame, slotLines, canWrite, writeAnswer, Written};
 
 use tasks::{TaskList, MAX_CORES, MAX_SLOTS, MAX_TASKS};
@@ -300,7 +300,30 @@ fn are_pairs(text: &[u8], from: usize, to: usize) -> bool
     true
 }
 
-// Refusals 21 to 23 of a line; 0 if there is none.
+// Refusals 22 and 23 of a frame of so many bytes, and 24 for a kind of an answer; 0 if there is none.
+fn frame_refusal(kind: u8, count: usize) -> u8
+    ensures { λ r. ⌜ r ≡ frameRefusal kind count ⌝ }
+{
+    match sort_of(kind) {
+        Sort::Unknown => UNKNOWN_KIND,
+        Sort::Misplaced => {
+            if count == length_of(kind) {
+                OUT_OF_PLACE
+            } else {
+                WRONG_LENGTH
+            }
+        }
+        Sort::Known => {
+            if count == length_of(kind) {
+                0
+            } else {
+                WRONG_LENGTH
+            }
+        }
+    }
+}
+
+// Refusal 21 of a line, and those of its frame; 0 if there is none.
 fn line_refusal(text: &[u8], from: usize, to: usize) -> u8
     requires { ⌜ (from ≤ to) × (to ≤ length (now text)) ⌝ }
     ensures { λ r. ⌜ r ≡ lineRefusal (lineAt (now (text .entry)) from to) ⌝ }
@@ -314,17 +337,7 @@ fn line_refusal(text: &[u8], from: usize, to: usize) -> u8
     if !are_pairs(text, from, to) {
         return NOT_LINE;
     }
-    let kind = pair(text[from], text[from + 1]);
-    match sort_of(kind) {
-        Sort::Unknown => UNKNOWN_KIND,
-        _ => {
-            if (to - from) / 2 == length_of(kind) {
-                0
-            } else {
-                WRONG_LENGTH
-            }
-        }
-    }
+    frame_refusal(pair(text[from], text[from + 1]), (to - from) / 2)
 }
 
 // The bytes of a line, filled up with 0.
