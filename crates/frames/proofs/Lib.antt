@@ -1,0 +1,8 @@
+mod Cases
+mod FrameLaws
+mod LineLaws
+mod ListLaws
+mod ReadLaws
+mod ReachLaws
+mod TaskLaws
+mod WriteLaws

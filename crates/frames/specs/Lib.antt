@@ -1,0 +1,4 @@
+pub mod Frame
+pub mod Lines
+pub mod Read
+pub mod Write

@@ -1,0 +1,149 @@
+-- The reader: a problem's text, line by line, and file refusals 20 to 24.
+-- Assumes nothing.
+use Prim.Native.Nat.{ℕ, zero, suc, _/_, _%_}
+use mathlib.Core.Bool.{Bool, true, false, cond, not, _&&_, _||_}
+use mathlib.Core.List.{List, [], _∷_, _++_}
+use lib.Dec.{leb, eqb}
+use lib.ListN.{length, getD}
+use Rattle.laws.specs.Tests.{every, imp}
+use Rattle.laws.specs.Lists.{nth, tab}
+use Rattle.tasks.specs.declared.Task.{Task}
+use Rattle.tasks.specs.declared.TaskList.{TaskList}
+use Rattle.tasks.specs.Task.{noTask}
+use Rattle.tasks.specs.Refusal.{unless}
+use Rattle.frames.specs.declared.Problem.{Problem}
+use Rattle.frames.specs.declared.Sort.{Sort}
+use Rattle.frames.specs.declared.Sort.the-variants.{Known, Misplaced, Unknown}
+use Rattle.frames.specs.Frame.{lengthOfKind, sortOf, two, four}
+use Rattle.frames.specs.Lines.{Line, pairs, bytesOf, lines}
+
+-- what a text holds: cores, tasks, engine and limit; or the number that refuses the file
+pub data Read : Type 0 where
+  refused : ℕ → Read
+  problem : ℕ → List Task → ℕ → ℕ → Read
+
+-- where a reading stands: the last frame, and what the frames so far have said
+pub record State : Type 0 where
+  pub last : List ℕ
+  pub m : ℕ
+  pub tasks : List Task
+  pub engine : ℕ
+  pub limit : ℕ
+
+-- before the first frame; 04 left out: engine 0, limit 1000000
+abbrev pub start : State
+start = record { last = []; m = 0; tasks = []; engine = 0; limit = 1000000 }
+
+-- 01, then for each task its 02 and its 03, then 04 at most once, then 07 and nothing more; kind 0 stands for the start
+unfoldable pub mayFollow : ℕ → ℕ → Bool
+mayFollow last kind =
+    cond (eqb last 0) (eqb kind 1)
+    (cond (eqb last 1 || eqb last 3) (eqb kind 2 || (eqb kind 4 || eqb kind 7))
+    (cond (eqb last 2) (eqb kind 3)
+    (cond (eqb last 4) (eqb kind 7) false)))
+
+-- tasks 1, 2, .. without gaps, none above 16; n have been read
+unfoldable pub rightNumber : ℕ → ℕ → ℕ → Bool
+rightNumber n kind number = imp (eqb kind 2 || eqb kind 3) (eqb number (suc n) && leb number 16)
+
+-- a frame stands in its place behind the last one, where n tasks have been read
+unfoldable pub inPlace : ℕ → ℕ → List ℕ → Bool
+inPlace last n f = mayFollow last (nth f 0) && rightNumber n (nth f 0) (nth f 1)
+
+-- the task of an 02 (number, O, C, D, T) and an 03 (number, four rates)
+unfoldable pub taskOf : List ℕ → List ℕ → Task
+taskOf f g = record {
+  offset = record { 0 = two f 2 };
+  work = record { 0 = two f 4 };
+  deadline = record { 0 = two f 6 };
+  period = record { 0 = two f 8 };
+  rates = record { 0 = nth g 2 ∷ nth g 3 ∷ nth g 4 ∷ nth g 5 ∷ [] };
+}
+
+-- what a frame in its place says: 01 the cores, 03 with the 02 before it a task, 04 engine and limit
+unfoldable pub taken : State → List ℕ → State
+taken s f = record {
+  last = f;
+  m = cond (eqb (nth f 0) 1) (nth f 1) (s .m);
+  tasks = cond (eqb (nth f 0) 3) (s .tasks ++ (taskOf (s .last) f ∷ [])) (s .tasks);
+  engine = cond (eqb (nth f 0) 4) (nth f 1) (s .engine);
+  limit = cond (eqb (nth f 0) 4) (four f 2) (s .limit);
+}
+
+-- there is such a kind
+abbrev pub isKind : Sort → Bool
+isKind Known = true
+isKind Misplaced = true
+isKind Unknown = false
+
+-- it stands in a problem
+abbrev pub inProblem : Sort → Bool
+inProblem Known = true
+inProblem Misplaced = false
+inProblem Unknown = false
+
+-- 23 wrong length
+unfoldable pub lengthRefusal : ℕ → ℕ → ℕ → ℕ
+lengthRefusal kind count after = unless (eqb count (lengthOfKind kind)) 23 after
+
+-- 22 unknown kind; 23; 24 out of place, as a kind of an answer always is
+unfoldable pub frameRefusal : ℕ → ℕ → ℕ
+frameRefusal kind count =
+    unless (isKind (sortOf kind)) 22 (lengthRefusal kind count (unless (inProblem (sortOf kind)) 24 0))
+
+-- 21 no line feed, not pairs of 0-9A-F, or empty; then its frame
+unfoldable pub lineRefusal : Line → ℕ
+lineRefusal l =
+    unless (every (l .ended ∷ pairs (l .text) ∷ not (eqb (length (l .text)) 0) ∷ [])) 21
+    (frameRefusal (nth (bytesOf (l .text)) 0) (length (bytesOf (l .text))))
+
+-- 24 out of place, or a task number above 16
+unfoldable pub placeRefusal : State → List ℕ → ℕ
+placeRefusal s f = unless (inPlace (nth (s .last) 0) (length (s .tasks)) f) 24 0
+
+-- the refusal k, or what comes after where it is 0
+abbrev pub orRead : ℕ → Read → Read
+orRead zero r = r
+orRead (suc k) r = refused (suc k)
+
+-- line by line 21 to 24; 24 too where there is no end
+unfoldable pub readLines : State → List Line → Read
+readLines s [] = orRead (unless (eqb (nth (s .last) 0) 7) 24 0) (problem (s .m) (s .tasks) (s .engine) (s .limit))
+readLines s (l ∷ ls) =
+    orRead (lineRefusal l) (orRead (placeRefusal s (bytesOf (l .text))) (readLines (taken s (bytesOf (l .text))) ls))
+
+-- 20 a text over its limit; then line by line
+unfoldable pub readWithin : ℕ → List ℕ → Read
+readWithin most text = orRead (unless (leb (length text) most) 20 0) (readLines start (lines text))
+
+-- a file of at most 1024 bytes
+abbrev pub readProblem : List ℕ → Read
+readProblem = readWithin 1024
+
+-- a list of at most 16 tasks as numbers, 0 beyond its end
+unfoldable pub listOf : List Task → TaskList
+listOf ts = record {
+  n = length ts;
+  offset = tab 16 (λ k. getD ts k noTask .offset .0);
+  work = tab 16 (λ k. getD ts k noTask .work .0);
+  deadline = tab 16 (λ k. getD ts k noTask .deadline .0);
+  period = tab 16 (λ k. getD ts k noTask .period .0);
+  rates = tab 64 (λ k. nth (getD ts (k / 4) noTask .rates .0) (k % 4));
+}
+
+-- what holds before the first frame, beside a refusal, 0 for none
+unfoldable pub blankOf : ℕ → Problem
+blankOf k = record { refusal = k; m = 0; list = listOf []; engine = 0; limit = 1000000 }
+
+-- what the frames so far have said
+unfoldable pub heldBy : State → Problem
+heldBy s = record { refusal = 0; m = s .m; list = listOf (s .tasks); engine = s .engine; limit = s .limit }
+
+-- what the code answers of a text
+unfoldable pub told : Read → Problem
+told (refused k) = blankOf k
+told (problem m ts engine limit) = record { refusal = 0; m = m; list = listOf ts; engine = engine; limit = limit }
+
+-- a frame's bytes, filled up with 0
+unfoldable pub filled : List ℕ → List ℕ
+filled f = tab 10 (nth f)

@@ -1,0 +1,497 @@
+// Frames: the reader of a problem's text and the writer of an answer's.
+ghost use mathlib.Core.Path.{_≡_};
+ghost use mathlib.Core.List.{List, [], _∷_, _++_};
+ghost use Prim.Native.Nat.{ℕ, _+_, _*_, _≤_, _<_};
+ghost use lib.ListN.{length, take};
+ghost use lib.Seq.{sets, slice};
+ghost use Rattle.laws.specs.Lists.{nth};
+ghost use Rattle.frames.specs.Frame.{lengthOfKind, sortOf};
+ghost use Rattle.frames.specs.Lines.{isDigit, digitOf, pairs, bytesOf, lines, LineEnd, lineAt};
+ghost use Rattle.tasks.specs.declared.Task.{Task};
+ghost use Rattle.frames.specs.Read.{State, start, mayFollow, rightNumber, inPlace, taskOf, taken, lengthRefusal, frameRefusal, lineRefusal, readLines, readProblem, listOf, blankOf, heldBy, told, filled};
+ghost use Rattle.frames.specs.Write.{hexOf, digits, lineOf, verdictFrame, cellAt, slotFrame, slotLines, canWrite, writeAnswer, Written};
+use tasks::MAX_CORES;
+use tasks::MAX_SLOTS;
+use tasks::MAX_TASKS;
+use tasks::TaskList;
+
+// The kinds of frames, and what stands for none before the first.
+const NO_FRAME: u8 = 0;
+
+const CORES: u8 = 1;
+
+const TASK: u8 = 2;
+
+const RATES: u8 = 3;
+
+const LIMIT: u8 = 4;
+
+const VERDICT: u8 = 5;
+
+const SLOT: u8 = 6;
+
+const END: u8 = 7;
+
+// Each kind of frame has its fixed length in bytes.
+const LENGTHS: [u8; 8] = [0, 2, 10, 6, 6, 6, 7, 1];
+
+// A file over this is refused.
+const MAX_TEXT: usize = 1024;
+
+// The limit where 04 is left out.
+const LIMIT_LEFT_OUT: u32 = 1000000;
+
+// The file refusals, by 01's numbers.
+const TOO_LONG: u8 = 20;
+
+const NOT_LINE: u8 = 21;
+
+const UNKNOWN_KIND: u8 = 22;
+
+const WRONG_LENGTH: u8 = 23;
+
+const OUT_OF_PLACE: u8 = 24;
+
+// 05 in 13 bytes, 1024 slots of 15 bytes, 07 in 3 bytes.
+const LONGEST_ANSWER: usize = 15376;
+
+// The length of a frame of a kind.
+fn length_of(kind: u8) -> usize
+    requires { ⌜ kind < 8 ⌝ }
+    ensures { λ r. ⌜ (r ≡ lengthOfKind kind) × (r ≤ 10) ⌝ }
+{
+    LENGTHS[kind as usize] as usize
+}
+
+// Whether a kind stands in a problem, in an answer alone, or in neither.
+pub enum Sort {
+    Known,
+    Misplaced,
+    Unknown,
+}
+
+// 01 to 04 and 07 stand in a problem, 05 and 06 in an answer alone.
+fn sort_of(kind: u8) -> Sort
+    ensures { λ r. ⌜ r ≡ sortOf kind ⌝ }
+{
+    match kind {
+        CORES..=LIMIT | END => Sort::Known,
+        VERDICT..=SLOT => Sort::Misplaced,
+        _ => Sort::Unknown,
+    }
+}
+
+// Whether a byte is one of 0-9A-F.
+fn is_digit(c: u8) -> bool
+    ensures { λ r. ⌜ r ≡ isDigit c ⌝ }
+{
+    match c {
+        b'0'..=b'9' | b'A'..=b'F' => true,
+        _ => false,
+    }
+}
+
+// What a digit stands for, and 0 for any other byte.
+fn digit(c: u8) -> u8
+    ensures { λ r. ⌜ (r ≡ digitOf c) × (r ≤ 15) ⌝ }
+{
+    match c {
+        b'0'..=b'9' => c - b'0',
+        b'A'..=b'F' => c - b'A' + 10,
+        _ => 0,
+    }
+}
+
+// The byte of a pair of digits.
+fn pair(high: u8, low: u8) -> u8
+    ensures { λ r. ⌜ r ≡ digitOf high * 16 + digitOf low ⌝ }
+{
+    digit(high) * 16 + digit(low)
+}
+
+// The digit of a number below 16.
+fn hex(x: u8) -> u8
+    requires { ⌜ x ≤ 15 ⌝ }
+    ensures { λ r. ⌜ r ≡ hexOf x ⌝ }
+{
+    if x < 10 { b'0' + x } else { b'A' + (x - 10) }
+}
+
+// A number of two bytes, high byte first.
+fn two_bytes(high: u8, low: u8) -> u16
+    ensures { λ r. ⌜ r ≡ high * 256 + low ⌝ }
+{
+    (high as u16) * 256 + (low as u16)
+}
+
+// A number of four bytes, high byte first.
+fn four_bytes(a: u8, b: u8, c: u8, d: u8) -> u32
+    ensures { λ r. ⌜ r ≡ (a * 256 + b) * 65536 + (c * 256 + d) ⌝ }
+{
+    (two_bytes(a, b) as u32) * 65536 + (two_bytes(c, d) as u32)
+}
+
+// Whether a frame of a kind may stand behind one of the last kind, 0 at the start.
+fn may_follow(last: u8, kind: u8) -> bool
+    ensures { λ r. ⌜ r ≡ mayFollow last kind ⌝ }
+{
+    match last {
+        NO_FRAME => kind == CORES,
+        CORES | RATES => match kind {
+            TASK | LIMIT | END => true,
+            _ => false,
+        },
+        TASK => kind == RATES,
+        LIMIT => kind == END,
+        _ => false,
+    }
+}
+
+// Writes the two digits of a byte.
+fn put_byte(out: &mut [u8], at: usize, b: u8)
+    requires { ⌜ at + 1 < length (now out) ⌝ }
+    ensures { λ _. ⌜ now (out .exit) ≡ sets (now (out .entry)) at (digits (b ∷ [])) ⌝ }
+{
+    out[at] = hex(b / 16);
+    out[at + 1] = hex(b % 16);
+}
+
+// Writes a frame's line, and gives where the next one begins.
+fn put_frame(out: &mut [u8], at: usize, frame: [u8; 10]) -> usize
+    requires { ⌜ (nth frame 0 < 8) × (at + (lengthOfKind (nth frame 0) * 2 + 1) ≤ length (now out)) ⌝ }
+    ensures { λ r. ⌜ (r ≡ at + (lengthOfKind (nth frame 0) * 2 + 1)) × (now (out .exit) ≡ sets (now (out .entry)) at (lineOf (take (lengthOfKind (nth frame 0)) frame))) ⌝ }
+{
+    let count = length_of(frame[0]);
+    let mut k: usize = 0;
+    while k < count {
+        put_byte(out, at + k * 2, frame[k]);
+        k += 1;
+    }
+    out[at + count * 2] = b'\n';
+    at + (count * 2 + 1)
+}
+
+// The frame of a verdict.
+fn verdict_frame(verdict: u8, tries: u32) -> [u8; 10]
+    ensures { λ r. ⌜ r ≡ verdictFrame verdict tries ++ (0 ∷ 0 ∷ 0 ∷ 0 ∷ []) ⌝ }
+{
+    [
+        VERDICT,
+        verdict,
+        (tries / 16777216) as u8,
+        (tries / 65536 % 256) as u8,
+        (tries / 256 % 256) as u8,
+        (tries % 256) as u8,
+        0,
+        0,
+        0,
+        0,
+    ]
+}
+
+// A cell of slot t, 0 beyond the cores.
+fn cell_at(m: u8, table: &[u8], t: u16, j: u8) -> u8
+    requires { ⌜ (t ≤ 1024) × (m ≤ 4) × (t * m + m ≤ length (now table)) ⌝ }
+    ensures { λ r. ⌜ r ≡ cellAt m (now (table .entry)) t j ⌝ }
+{
+    if j < m {
+        table[(t as usize) * (m as usize) + (j as usize)]
+    } else {
+        0
+    }
+}
+
+// The frame of slot t.
+fn slot_frame(m: u8, table: &[u8], t: u16) -> [u8; 10]
+    requires { ⌜ (t ≤ 1024) × (m ≤ 4) × (t * m + m ≤ length (now table)) ⌝ }
+    ensures { λ r. ⌜ r ≡ slotFrame m (now (table .entry)) t ++ (0 ∷ 0 ∷ 0 ∷ []) ⌝ }
+{
+    [
+        SLOT,
+        (t / 256) as u8,
+        (t % 256) as u8,
+        cell_at(m, table, t, 0),
+        cell_at(m, table, t, 1),
+        cell_at(m, table, t, 2),
+        cell_at(m, table, t, 3),
+        0,
+        0,
+        0,
+    ]
+}
+
+// Writes the lines of the slots, and gives where the next one begins.
+fn put_slots(out: &mut [u8], at: usize, slots: u16, m: u8, table: &[u8]) -> usize
+    requires { ⌜ (slots ≤ 1024) × (m ≤ 4) × (slots * m ≤ length (now table)) × (at + slots * 15 ≤ length (now out)) ⌝ }
+    ensures { λ r. ⌜ (r ≡ at + slots * 15) × (now (out .exit) ≡ sets (now (out .entry)) at (slotLines slots m (now (table .entry)))) ⌝ }
+{
+    let mut next = at;
+    let mut t: u16 = 0;
+    while t < slots {
+        next = put_frame(out, next, slot_frame(m, table, t));
+        t += 1;
+    }
+    next
+}
+
+// Whether the table is there, and the longest answer has room.
+fn can_write(slots: u16, m: u8, cells: usize, room: usize) -> bool
+    ensures { λ r. ⌜ r ≡ canWrite slots m cells room ⌝ }
+{
+    if MAX_SLOTS < slots {
+        return false;
+    }
+    if MAX_CORES < m {
+        return false;
+    }
+    if cells < (slots as usize) * (m as usize) {
+        return false;
+    }
+    LONGEST_ANSWER <= room
+}
+
+// Writes an answer, and gives how many bytes it has; 0 where it cannot be written.
+pub fn write_answer(
+    verdict: u8,
+    tries: u32,
+    slots: u16,
+    m: u8,
+    table: &[u8],
+    out: &mut [u8],
+) -> usize
+    ensures { λ r. ⌜ Written (canWrite slots m (length (now (table .entry))) (length (now (out .entry)))) (writeAnswer verdict tries slots m (now (table .entry))) (now (out .entry)) r (now (out .exit)) ⌝ }
+{
+    if !can_write(slots, m, table.len(), out.len()) {
+        return 0;
+    }
+    let shown = if verdict == 0 { slots } else { 0 };
+    let first = put_frame(out, 0, verdict_frame(verdict, tries));
+    let last = put_slots(out, first, shown, m, table);
+    put_frame(out, last, [END, 0, 0, 0, 0, 0, 0, 0, 0, 0])
+}
+
+// What a text holds: a problem, or the number that refuses the file.
+pub struct Problem {
+    pub refusal: u8,
+    pub m: u8,
+    pub list: TaskList,
+    pub engine: u8,
+    pub limit: u32,
+}
+
+// Where the line that begins at a place ends: at its line feed, or at the text's end.
+fn line_end(text: &[u8], from: usize) -> usize
+    requires { ⌜ from ≤ length (now text) ⌝ }
+    ensures { λ r. ⌜ LineEnd (now (text .entry)) from r ⌝ }
+{
+    let mut i = from;
+    while i < text.len() {
+        if text[i] == b'\n' {
+            return i;
+        }
+        i += 1;
+    }
+    i
+}
+
+// Whether a part of a text is made of pairs of 0-9A-F.
+fn are_pairs(text: &[u8], from: usize, to: usize) -> bool
+    requires { ⌜ (from ≤ to) × (to ≤ length (now text)) ⌝ }
+    ensures { λ r. ⌜ r ≡ pairs (slice from to (now (text .entry))) ⌝ }
+{
+    let mut i = from;
+    while i < to {
+        if to - i < 2 {
+            return false;
+        }
+        if !is_digit(text[i]) {
+            return false;
+        }
+        if !is_digit(text[i + 1]) {
+            return false;
+        }
+        i += 2;
+    }
+    true
+}
+
+// 23 where a frame of so many bytes has another length than its kind, else what comes after.
+fn length_refusal(kind: u8, count: usize, after: u8) -> u8
+    requires { ⌜ kind < 8 ⌝ }
+    ensures { λ r. ⌜ r ≡ lengthRefusal kind count after ⌝ }
+{
+    if count == length_of(kind) {
+        after
+    } else {
+        WRONG_LENGTH
+    }
+}
+
+// Refusals 22 and 23 of a frame of so many bytes, and 24 for a kind of an answer; 0 if there is none.
+fn frame_refusal(kind: u8, count: usize) -> u8
+    ensures { λ r. ⌜ r ≡ frameRefusal kind count ⌝ }
+{
+    match sort_of(kind) {
+        Sort::Unknown => UNKNOWN_KIND,
+        Sort::Misplaced => length_refusal(kind, count, OUT_OF_PLACE),
+        Sort::Known => length_refusal(kind, count, 0),
+    }
+}
+
+// Refusal 21 of a line, and those of its frame; 0 if there is none.
+fn line_refusal(text: &[u8], from: usize, to: usize) -> u8
+    requires { ⌜ (from ≤ to) × (to ≤ length (now text)) ⌝ }
+    ensures { λ r. ⌜ r ≡ lineRefusal (lineAt (now (text .entry)) from to) ⌝ }
+{
+    if to == text.len() {
+        return NOT_LINE;
+    }
+    if to - from < 2 {
+        return NOT_LINE;
+    }
+    if !are_pairs(text, from, to) {
+        return NOT_LINE;
+    }
+    frame_refusal(pair(text[from], text[from + 1]), (to - from) / 2)
+}
+
+// The bytes of a line, filled up with 0.
+fn frame_at(text: &[u8], from: usize, to: usize) -> [u8; 10]
+    requires { ⌜ (from ≤ to) × (to ≤ length (now text)) × (to ≤ from + 21) ⌝ }
+    ensures { λ r. ⌜ r ≡ filled (bytesOf (slice from to (now (text .entry)))) ⌝ }
+{
+    let count = (to - from) / 2;
+    let mut frame = [0u8; 10];
+    let mut k: usize = 0;
+    while k < count {
+        let i = from + k * 2;
+        frame[k] = pair(text[i], text[i + 1]);
+        k += 1;
+    }
+    frame
+}
+
+// Whether a frame has the number of the next task, if it has a task's number.
+fn right_number(n: u8, kind: u8, number: u8) -> bool
+    ensures { λ r. ⌜ r ≡ rightNumber n kind number ⌝ }
+{
+    match kind {
+        TASK | RATES => {
+            if MAX_TASKS <= n {
+                return false;
+            }
+            number == n + 1
+        }
+        _ => true,
+    }
+}
+
+// Whether a frame stands in its place behind the last one, where n tasks have been read.
+fn in_place(last: u8, n: u8, frame: [u8; 10]) -> bool
+    ensures { λ r. ⌜ r ≡ inPlace last n frame ⌝ }
+{
+    if !may_follow(last, frame[0]) {
+        return false;
+    }
+    right_number(n, frame[0], frame[1])
+}
+
+// A list and one more task, from its 02 and its 03.
+fn add_task(mut list: TaskList, last: [u8; 10], frame: [u8; 10]) -> TaskList
+    requires { ⌜ list .n < 16 ⌝ }
+    ensures { λ r. ⌜ ((ts : List Task) → list ≡ listOf ts → r ≡ listOf (ts ++ (taskOf last frame ∷ []))) ⌝ }
+{
+    let i = list.n as usize;
+    list.offset[i] = two_bytes(last[2], last[3]);
+    list.work[i] = two_bytes(last[4], last[5]);
+    list.deadline[i] = two_bytes(last[6], last[7]);
+    list.period[i] = two_bytes(last[8], last[9]);
+    let k = i * 4;
+    list.rates[k] = frame[2];
+    list.rates[k + 1] = frame[3];
+    list.rates[k + 2] = frame[4];
+    list.rates[k + 3] = frame[5];
+    list.n += 1;
+    list
+}
+
+// What the frames so far have said, and what one more in its place says.
+fn take_frame(mut p: Problem, last: [u8; 10], frame: [u8; 10]) -> Problem
+    requires { ⌜ (nth frame 0 ≡ 3 → p .list .n < 16) ⌝ }
+    ensures { λ r. ⌜ ((s : State) → p ≡ heldBy s → last ≡ filled (s .last) → (f : List ℕ) → frame ≡ filled f → r ≡ heldBy (taken s f)) ⌝ }
+{
+    let kind = frame[0];
+    match kind {
+        CORES => {
+            p.m = frame[1];
+        }
+        RATES => {
+            let list = p.list;
+            let more = add_task(list, last, frame);
+            p.list = more;
+        }
+        LIMIT => {
+            p.engine = frame[1];
+            p.limit = four_bytes(frame[2], frame[3], frame[4], frame[5]);
+        }
+        _ => {}
+    }
+    p
+}
+
+// What holds before the first frame, beside a refusal, 0 for none.
+fn blank(refusal: u8) -> Problem
+    ensures { λ r. ⌜ r ≡ blankOf refusal ⌝ }
+{
+    Problem {
+        refusal,
+        m: 0,
+        list: TaskList {
+            n: 0,
+            offset: [0; 16],
+            work: [0; 16],
+            deadline: [0; 16],
+            period: [0; 16],
+            rates: [0; 64],
+        },
+        engine: 0,
+        limit: LIMIT_LEFT_OUT,
+    }
+}
+
+// Refusals 21 to 24, line by line; else the problem.
+fn read_lines(text: &[u8]) -> Problem
+    ensures { λ r. ⌜ r ≡ told (readLines start (lines (now (text .entry)))) ⌝ }
+{
+    let mut p = blank(0);
+    let mut last = [0u8; 10];
+    let mut at: usize = 0;
+    while at < text.len() {
+        let to = line_end(text, at);
+        let refusal = line_refusal(text, at, to);
+        if refusal != 0 {
+            return blank(refusal);
+        }
+        let frame = frame_at(text, at, to);
+        if !in_place(last[0], p.list.n, frame) {
+            return blank(OUT_OF_PLACE);
+        }
+        p = take_frame(p, last, frame);
+        last = frame;
+        at = to + 1;
+    }
+    if last[0] != END {
+        return blank(OUT_OF_PLACE);
+    }
+    p
+}
+
+// The problem that a text holds, or its refusal.
+pub fn read_problem(text: &[u8]) -> Problem
+    ensures { λ r. ⌜ r ≡ told (readProblem (now (text .entry))) ⌝ }
+{
+    if MAX_TEXT < text.len() {
+        return blank(TOO_LONG);
+    }
+    read_lines(text)
+}
