@@ -47,7 +47,7 @@ unless-none true k next l e = (tt, e)
 unless-none false k next l e = absurd (omega arith)
 
 -- two that did not
-next-none : (x next : ℕ) → orNext x next ≡ 0 → (x ≡ 0) × (next ≡ 0)
+pub next-none : (x next : ℕ) → orNext x next ≡ 0 → (x ≡ 0) × (next ≡ 0)
 unfolding orNext
 next-none zero next e = (refl, e)
 next-none (suc x) next e = absurd (omega (arith, ap (λ b. cond b next (suc x)) (eqb·suc-zero x), e))
