@@ -1,6 +1,7 @@
 -- The writer: an answer's text.
 -- Assumes nothing.
 use Prim.Native.Nat.{ℕ, zero, suc, _+_, _*_, _/_, _%_}
+use mathlib.Core.Path.{_≡_}
 use mathlib.Core.Bool.{Bool, cond}
 use mathlib.Core.List.{List, [], _∷_, _++_}
 use lib.Dec.{leb, ltb, eqb}
@@ -45,6 +46,11 @@ unfoldable pub writeAnswer : ℕ → ℕ → ℕ → ℕ → List ℕ → List �
 writeAnswer verdict tries H m table =
     lineOf (verdictFrame verdict tries) ++ slotLines (gate (eqb verdict 0) H) m table ++ lineOf (7 ∷ [])
 
--- the table is there, and the longest answer has room: 05 in 13 bytes, 1024 slots of 15 bytes, 07 in 3 bytes
-unfoldable pub canWrite : ℕ → ℕ → List ℕ → List ℕ → Bool
-canWrite H m table out = every (leb H 1024 ∷ leb m 4 ∷ leb (H * m) (length table) ∷ leb 15376 (length out) ∷ [])
+-- the table has the cells, and the longest answer has room: 05 in 13 bytes, 1024 slots of 15 bytes, 07 in 3 bytes
+unfoldable pub canWrite : ℕ → ℕ → ℕ → ℕ → Bool
+canWrite H m cells room = every (leb H 1024 ∷ leb m 4 ∷ leb (H * m) cells ∷ leb 15376 room ∷ [])
+
+-- a writer's answer r and what it leaves in its buffer: the text over the buffer's start, or nothing written
+pub record Written (can : Bool) (text out : List ℕ) (r : ℕ) (out′ : List ℕ) : Type 0 where
+  pub count : r ≡ gate can (length text)
+  pub holds : out′ ≡ cond can (over text out) out

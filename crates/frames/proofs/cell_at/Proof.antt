@@ -1,0 +1,31 @@
+-- `frames::cell_at` meets its contract: a cell of the table, or 0 beyond the cores.
+-- Assumes nothing.
+use mathlib.Core.Path.{sym}
+use native.Mathlib.Nat.{mul-le-mul}
+use native.Mathlib.Omega.{arith}
+use borrow.Author.Needs.{needs}
+use Rattle.laws.proofs.SumLaws.{gate-lt, gate-ge}
+use Rattle.frames.specs.Write.{cellAt}
+use Rattle.frames.proofs.cell_at.Statement.{statement}
+use Rattle.frames.proofs.cell_at.Tie as tie
+
+mul-result : tie.Need-mul-result
+mul-result c = search needs
+
+add-result : tie.Need-add-result
+add-result c = search needs
+
+shared-slice-read-result : tie.Need-shared-slice-read-result
+shared-slice-read-result c = search needs
+
+returns : tie.Need-returns
+unfolding cellAt
+returns c = sym (gate-lt _ _ _ (c .before .if1 .taken))
+
+returns-2 : tie.Need-returns-2
+unfolding cellAt
+returns-2 c = sym (gate-ge _ _ _ (c .if1 .left))
+
+pub cell-at-spec : {M : Type 1} → statement M
+cell-at-spec =
+    tie.close (tie.spec mul-result add-result shared-slice-read-result returns returns-2)
