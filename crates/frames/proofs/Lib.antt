@@ -1,3 +1,6 @@
 mod Cases
 mod FrameLaws
+mod LineLaws
+mod ListLaws
+mod ReadLaws
 mod WriteLaws

@@ -1,7 +1,7 @@
 -- Lines as they are written, byte by byte, over what was there.
 -- Assumes nothing.
 use Prim.Native.Nat.{ℕ, zero, suc, _+_, _*_, _≤_, _<_}
-use native.Mathlib.Nat.{add-zero, zero-add, mul-le-mul-right, add-mul}
+use native.Mathlib.Nat.{zero-add, mul-le-mul-right, add-mul}
 use native.Mathlib.Numerals.{add-one}
 use native.Mathlib.Omega.{arith}
 use mathlib.Core.Path.{_≡_, refl, sym, ap, subst, _∙_}
@@ -13,13 +13,9 @@ use lib.Seq.{sets, sets-eq, take-suc, length-take-le}
 use Rattle.laws.specs.Sum.{gate}
 use Rattle.laws.specs.Lists.{nth, over}
 use Rattle.laws.proofs.TestLaws.{every-holds}
+use Rattle.frames.proofs.ListLaws.{sets-append}
 use Rattle.frames.specs.Frame.{lengthOfKind}
 use Rattle.frames.specs.Write.{digits, lineOf, verdictFrame, slotFrame, slotLines, writeAnswer, canWrite, Written}
-
--- one run of stores behind another
-pub sets-append : (xs ys l : List ℕ) (i : ℕ) → sets l i (xs ++ ys) ≡ sets (sets l i xs) (i + length xs) ys
-sets-append [] ys l i = ap (λ j. sets l j ys) (sym (add-zero i))
-sets-append (x ∷ xs) ys l i = sets-append xs ys (set l i x) (suc i) ∙ ap (λ j. sets (sets (set l i x) (suc i) xs) j ys) (omega arith)
 
 -- two digits a byte
 pub digits-length : (f : List ℕ) → length (digits f) ≡ length f * 2

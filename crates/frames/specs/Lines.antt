@@ -1,9 +1,14 @@
 -- Lines of upper-case hexadecimal.
 -- Assumes nothing.
-use Prim.Native.Nat.{ℕ, _+_, _*_, _-_}
+use Prim.Native.Nat.{ℕ, _+_, _*_, _-_, _≤_, _<_}
+use mathlib.Core.Path.{_≡_}
+use mathlib.Core.Logic.{_≢_}
 use mathlib.Core.Bool.{Bool, true, false, cond, _&&_, _||_}
 use mathlib.Core.List.{List, [], _∷_}
-use lib.Dec.{eqb}
+use lib.Dec.{ltb, eqb}
+use lib.ListN.{length}
+use lib.Seq.{slice}
+use Rattle.laws.specs.Lists.{nth}
 use Rattle.tasks.specs.Refusal.{within}
 
 -- 0-9 and A-F
@@ -40,3 +45,14 @@ before b (l ∷ ls) = record { text = b ∷ l .text; ended = l .ended } ∷ ls
 unfoldable pub lines : List ℕ → List Line
 lines [] = []
 lines (b ∷ s) = cond (eqb b 10) (record { text = []; ended = true } ∷ lines s) (before b (lines s))
+
+-- the line of a text from one place up to another, which has a line feed unless that is the text's end
+abbrev pub lineAt : List ℕ → ℕ → ℕ → Line
+lineAt text from to = record { text = slice from to text; ended = ltb to (length text) }
+
+-- the line that begins at a place ends here: at the next line feed, or at the text's end
+pub record LineEnd (text : List ℕ) (from to : ℕ) : Type 0 where
+  pub behind : from ≤ to
+  pub within : to ≤ length text
+  pub none-before : (k : ℕ) → from ≤ k → k < to → nth text k ≢ 10
+  pub feed : to < length text → nth text to ≡ 10

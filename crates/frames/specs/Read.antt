@@ -43,12 +43,12 @@ mayFollow last kind =
     (cond (eqb last 4) (eqb kind 7) false)))
 
 -- tasks 1, 2, .. without gaps, none above 16; n have been read
-unfoldable pub rightNumber : ℕ → List ℕ → Bool
-rightNumber n f = imp (eqb (nth f 0) 2 || eqb (nth f 0) 3) (eqb (nth f 1) (suc n) && leb (nth f 1) 16)
+unfoldable pub rightNumber : ℕ → ℕ → ℕ → Bool
+rightNumber n kind number = imp (eqb kind 2 || eqb kind 3) (eqb number (suc n) && leb number 16)
 
 -- a frame stands in its place behind the last one, where n tasks have been read
 unfoldable pub inPlace : ℕ → ℕ → List ℕ → Bool
-inPlace last n f = mayFollow last (nth f 0) && rightNumber n f
+inPlace last n f = mayFollow last (nth f 0) && rightNumber n (nth f 0) (nth f 1)
 
 -- the task of an 02 (number, O, C, D, T) and an 03 (number, four rates)
 unfoldable pub taskOf : List ℕ → List ℕ → Task
@@ -76,12 +76,24 @@ isKind Known = true
 isKind Misplaced = true
 isKind Unknown = false
 
--- 21 no line feed, not pairs of 0-9A-F, or empty; 22 unknown kind; 23 wrong length
+-- it stands in a problem
+abbrev pub inProblem : Sort → Bool
+inProblem Known = true
+inProblem Misplaced = false
+inProblem Unknown = false
+
+-- 22 unknown kind; 23 wrong length; 24 out of place, as a kind of an answer always is
+unfoldable pub frameRefusal : ℕ → ℕ → ℕ
+frameRefusal kind count =
+    unless (isKind (sortOf kind)) 22
+    (unless (eqb count (lengthOfKind kind)) 23
+    (unless (inProblem (sortOf kind)) 24 0))
+
+-- 21 no line feed, not pairs of 0-9A-F, or empty; then its frame
 unfoldable pub lineRefusal : Line → ℕ
 lineRefusal l =
     unless (every (l .ended ∷ pairs (l .text) ∷ not (eqb (length (l .text)) 0) ∷ [])) 21
-    (unless (isKind (sortOf (nth (bytesOf (l .text)) 0))) 22
-    (unless (eqb (length (bytesOf (l .text))) (lengthOfKind (nth (bytesOf (l .text)) 0))) 23 0))
+    (frameRefusal (nth (bytesOf (l .text)) 0) (length (bytesOf (l .text))))
 
 -- 24 out of place, or a task number above 16
 unfoldable pub placeRefusal : State → List ℕ → ℕ
@@ -117,7 +129,19 @@ listOf ts = record {
   rates = tab 64 (λ k. nth (getD ts (k / 4) noTask .rates .0) (k % 4));
 }
 
--- what the code answers of a text: a refusal stands beside what holds before the first frame
+-- what holds before the first frame, beside a refusal, 0 for none
+unfoldable pub blankOf : ℕ → Problem
+blankOf k = record { refusal = k; m = 0; list = listOf []; engine = 0; limit = 1000000 }
+
+-- what the frames so far have said
+unfoldable pub heldBy : State → Problem
+heldBy s = record { refusal = 0; m = s .m; list = listOf (s .tasks); engine = s .engine; limit = s .limit }
+
+-- what the code answers of a text
 unfoldable pub told : Read → Problem
-told (refused k) = record { refusal = k; m = 0; list = listOf []; engine = 0; limit = 1000000 }
+told (refused k) = blankOf k
 told (problem m ts engine limit) = record { refusal = 0; m = m; list = listOf ts; engine = engine; limit = limit }
+
+-- a frame's bytes, filled up with 0
+unfoldable pub filled : List ℕ → List ℕ
+filled f = tab 10 (nth f)

@@ -1,19 +1,37 @@
 // Frames: the reader of a problem's text and the writer of an answer's.
 ghost use mathlib.Core.Path.{_≡_};
 ghost use mathlib.Core.List.{List, [], _∷_, _++_};
-ghost use Prim.Native.Nat.{_+_, _*_, _≤_, _<_};
+ghost use Prim.Native.Nat.{ℕ, _+_, _*_, _≤_, _<_};
 ghost use lib.ListN.{length, take};
-ghost use lib.Seq.{sets};
+ghost use lib.Seq.{sets, slice};
 ghost use Rattle.laws.specs.Lists.{nth};
 ghost use Rattle.frames.specs.Frame.{lengthOfKind, sortOf};
-ghost use Rattle.frames.specs.Lines.{isDigit, digitOf};
-ghost use Rattle.frames.specs.Read.{mayFollow, rightNumber};
+ghost use Rattle.frames.specs.Lines.{isDigit, digitOf, pairs, bytesOf, lines, LineEnd, lineAt};
+ghost use Rattle.tasks.specs.declared.Task.{Task};
+ghost use Rattle.frames.specs.Read.{State, start, mayFollow, rightNumber, inPlace, taskOf, taken, frameRefusal, lineRefusal, readLines, readProblem, listOf, blankOf, heldBy, told, filled};
 ghost use Rattle.frames.specs.Write.{hexOf, digits, lineOf, verdictFrame, cellAt, slotFrame, slotLines, canWrite, writeAnswer, Written};
 
-use tasks::{TaskList, MAX_CORES, MAX_SLOTS};
+use tasks::{TaskList, MAX_CORES, MAX_SLOTS, MAX_TASKS};
 
 // Each kind of frame has its fixed length in bytes.
 const LENGTHS: [u8; 8] = [0, 2, 10, 6, 6, 6, 7, 1];
+
+// A file over this is refused.
+const MAX_TEXT: usize = 1024;
+
+// The limit where 04 is left out.
+const LIMIT_LEFT_OUT: u32 = 1000000;
+
+// The file refusals, by 01's numbers.
+const TOO_LONG: u8 = 20;
+
+const NOT_LINE: u8 = 21;
+
+const UNKNOWN_KIND: u8 = 22;
+
+const WRONG_LENGTH: u8 = 23;
+
+const OUT_OF_PLACE: u8 = 24;
 
 // 05 in 13 bytes, 1024 slots of 15 bytes, 07 in 3 bytes.
 const LONGEST_ANSWER: usize = 15376;
@@ -244,4 +262,221 @@ pub struct Problem {
     pub list: TaskList,
     pub engine: u8,
     pub limit: u32,
+}
+
+// Where the line that begins at a place ends: at its line feed, or at the text's end.
+fn line_end(text: &[u8], from: usize) -> usize
+    requires { ⌜ from ≤ length (now text) ⌝ }
+    ensures { λ r. ⌜ LineEnd (now (text .entry)) from r ⌝ }
+{
+    let mut i = from;
+    while i < text.len() {
+        if text[i] == b'\n' {
+            return i;
+        }
+        i += 1;
+    }
+    i
+}
+
+// Whether a part of a text is made of pairs of 0-9A-F.
+fn are_pairs(text: &[u8], from: usize, to: usize) -> bool
+    requires { ⌜ (from ≤ to) × (to ≤ length (now text)) ⌝ }
+    ensures { λ r. ⌜ r ≡ pairs (slice from to (now (text .entry))) ⌝ }
+{
+    let mut i = from;
+    while i < to {
+        if to - i < 2 {
+            return false;
+        }
+        if !is_digit(text[i]) {
+            return false;
+        }
+        if !is_digit(text[i + 1]) {
+            return false;
+        }
+        i += 2;
+    }
+    true
+}
+
+// Refusals 22 and 23 of a frame of so many bytes, and 24 for a kind of an answer; 0 if there is none.
+fn frame_refusal(kind: u8, count: usize) -> u8
+    ensures { λ r. ⌜ r ≡ frameRefusal kind count ⌝ }
+{
+    match sort_of(kind) {
+        Sort::Unknown => UNKNOWN_KIND,
+        Sort::Misplaced => {
+            if count == length_of(kind) {
+                OUT_OF_PLACE
+            } else {
+                WRONG_LENGTH
+            }
+        }
+        Sort::Known => {
+            if count == length_of(kind) {
+                0
+            } else {
+                WRONG_LENGTH
+            }
+        }
+    }
+}
+
+// Refusal 21 of a line, and those of its frame; 0 if there is none.
+fn line_refusal(text: &[u8], from: usize, to: usize) -> u8
+    requires { ⌜ (from ≤ to) × (to ≤ length (now text)) ⌝ }
+    ensures { λ r. ⌜ r ≡ lineRefusal (lineAt (now (text .entry)) from to) ⌝ }
+{
+    if to == text.len() {
+        return NOT_LINE;
+    }
+    if to - from < 2 {
+        return NOT_LINE;
+    }
+    if !are_pairs(text, from, to) {
+        return NOT_LINE;
+    }
+    frame_refusal(pair(text[from], text[from + 1]), (to - from) / 2)
+}
+
+// The bytes of a line, filled up with 0.
+fn frame_at(text: &[u8], from: usize, to: usize) -> [u8; 10]
+    requires { ⌜ (from ≤ to) × (to ≤ length (now text)) × (to ≤ from + 21) ⌝ }
+    ensures { λ r. ⌜ r ≡ filled (bytesOf (slice from to (now (text .entry)))) ⌝ }
+{
+    let count = (to - from) / 2;
+    let mut frame = [0u8; 10];
+    let mut k: usize = 0;
+    while k < count {
+        let i = from + k * 2;
+        frame[k] = pair(text[i], text[i + 1]);
+        k += 1;
+    }
+    frame
+}
+
+// Whether a frame has the number of the next task, if it has a task's number.
+fn right_number(n: u8, kind: u8, number: u8) -> bool
+    ensures { λ r. ⌜ r ≡ rightNumber n kind number ⌝ }
+{
+    match kind {
+        2 | 3 => {
+            if MAX_TASKS <= n {
+                return false;
+            }
+            number == n + 1
+        }
+        _ => true,
+    }
+}
+
+// Whether a frame stands in its place behind the last one, where n tasks have been read.
+fn in_place(last: u8, n: u8, frame: [u8; 10]) -> bool
+    ensures { λ r. ⌜ r ≡ inPlace last n frame ⌝ }
+{
+    if !may_follow(last, frame[0]) {
+        return false;
+    }
+    right_number(n, frame[0], frame[1])
+}
+
+// A list and one more task, from its 02 and its 03.
+fn add_task(mut list: TaskList, last: [u8; 10], frame: [u8; 10]) -> TaskList
+    requires { ⌜ list .n < 16 ⌝ }
+    ensures { λ r. ⌜ ((ts : List Task) → list ≡ listOf ts → r ≡ listOf (ts ++ (taskOf last frame ∷ []))) ⌝ }
+{
+    let i = list.n as usize;
+    list.offset[i] = two_bytes(last[2], last[3]);
+    list.work[i] = two_bytes(last[4], last[5]);
+    list.deadline[i] = two_bytes(last[6], last[7]);
+    list.period[i] = two_bytes(last[8], last[9]);
+    let k = i * 4;
+    list.rates[k] = frame[2];
+    list.rates[k + 1] = frame[3];
+    list.rates[k + 2] = frame[4];
+    list.rates[k + 3] = frame[5];
+    list.n += 1;
+    list
+}
+
+// What the frames so far have said, and what one more in its place says.
+fn take_frame(mut p: Problem, last: [u8; 10], frame: [u8; 10]) -> Problem
+    requires { ⌜ (nth frame 0 ≡ 3 → p .list .n < 16) ⌝ }
+    ensures { λ r. ⌜ ((s : State) → p ≡ heldBy s → last ≡ filled (s .last) → (f : List ℕ) → frame ≡ filled f → r ≡ heldBy (taken s f)) ⌝ }
+{
+    let kind = frame[0];
+    match kind {
+        1 => {
+            p.m = frame[1];
+        }
+        3 => {
+            let list = p.list;
+            let more = add_task(list, last, frame);
+            p.list = more;
+        }
+        4 => {
+            p.engine = frame[1];
+            p.limit = four_bytes(frame[2], frame[3], frame[4], frame[5]);
+        }
+        _ => {}
+    }
+    p
+}
+
+// What holds before the first frame, beside a refusal, 0 for none.
+fn blank(refusal: u8) -> Problem
+    ensures { λ r. ⌜ r ≡ blankOf refusal ⌝ }
+{
+    Problem {
+        refusal,
+        m: 0,
+        list: TaskList {
+            n: 0,
+            offset: [0; 16],
+            work: [0; 16],
+            deadline: [0; 16],
+            period: [0; 16],
+            rates: [0; 64],
+        },
+        engine: 0,
+        limit: LIMIT_LEFT_OUT,
+    }
+}
+
+// Refusals 21 to 24, line by line; else the problem.
+fn read_lines(text: &[u8]) -> Problem
+    ensures { λ r. ⌜ r ≡ told (readLines start (lines (now (text .entry)))) ⌝ }
+{
+    let mut p = blank(0);
+    let mut last = [0u8; 10];
+    let mut at: usize = 0;
+    while at < text.len() {
+        let to = line_end(text, at);
+        let refusal = line_refusal(text, at, to);
+        if refusal != 0 {
+            return blank(refusal);
+        }
+        let frame = frame_at(text, at, to);
+        if !in_place(last[0], p.list.n, frame) {
+            return blank(OUT_OF_PLACE);
+        }
+        p = take_frame(p, last, frame);
+        last = frame;
+        at = to + 1;
+    }
+    if last[0] != 7 {
+        return blank(OUT_OF_PLACE);
+    }
+    p
+}
+
+// The problem that a text holds, or its refusal.
+pub fn read_problem(text: &[u8]) -> Problem
+    ensures { λ r. ⌜ r ≡ told (readProblem (now (text .entry))) ⌝ }
+{
+    if MAX_TEXT < text.len() {
+        return blank(TOO_LONG);
+    }
+    read_lines(text)
 }

@@ -1,0 +1,85 @@
+-- `frames::frame_refusal` meets its contract: the sort of the kind, and then the length, decide as in the definition.
+-- Assumes nothing.
+use mathlib.Core.Path.{_≡_, sym, ap, _∙_}
+use mathlib.Core.Bool.{true}
+use borrow.Author.Needs.{needs}
+use borrow.Author.Tests.{eq-eqb, ne-eqb}
+use Rattle.tasks.specs.Refusal.{unless}
+use Rattle.frames.specs.Frame.{lengthOfKind, sortOf}
+use Rattle.frames.specs.Read.{isKind, frameRefusal}
+use Rattle.frames.specs.declared.Sort.the-variants.{Known, Misplaced, Unknown}
+use Rattle.frames.proofs.ReadLaws.{kind-low}
+use Rattle.frames.proofs.frame_refusal.Statement.{statement}
+use Rattle.frames.proofs.frame_refusal.Tie as tie
+
+-- the sort that each arm has
+unknown : (c : tie.After-enum-told) → sortOf (c .before .before .before .args .kind) ≡ Unknown
+unknown c = sym (c .before .before .sort-of .ensures) ∙ c .enum-told .given .1
+
+misplaced : (c : tie.After-enum-told2) → sortOf (c .before .before .before .args .kind) ≡ Misplaced
+misplaced c = sym (c .before .before .sort-of .ensures) ∙ c .enum-told2 .given .1
+
+known : (c : tie.After-enum-told3) → sortOf (c .before .before .before .args .kind) ≡ Known
+known c = sym (c .before .before .sort-of .ensures) ∙ c .enum-told3 .given .1
+
+sort-of-requires : tie.Need-sort-of-requires
+sort-of-requires c κs = search needs
+
+enum-told : tie.Need-enum-told
+enum-told c = search needs
+
+enum-told-2 : tie.Need-enum-told-2
+enum-told-2 c = search needs
+
+length-of-requires : tie.Need-length-of-requires
+length-of-requires c κs = kind-low _ (ap isKind (misplaced c))
+
+enum-told-3 : tie.Need-enum-told-3
+enum-told-3 c = search needs
+
+length-of-requires-2 : tie.Need-length-of-requires-2
+length-of-requires-2 c κs = kind-low _ (ap isKind (known c))
+
+returns : tie.Need-returns
+unfolding frameRefusal unless
+returns c = rw (unknown c)
+
+returns-2 : tie.Need-returns-2
+unfolding frameRefusal unless
+returns-2 c =
+    let a = c .before .before .before .before .before .args in
+    rw (misplaced (c .before .before), eq-eqb (a .count) (lengthOfKind (a .kind)) (c .if1 .taken ∙ c .before .length-of .ensures .0))
+
+returns-3 : tie.Need-returns-3
+unfolding frameRefusal unless
+returns-3 c =
+    let a = c .before .before .before .before .before .args in
+    rw (misplaced (c .before .before), ne-eqb (a .count) (lengthOfKind (a .kind)) (λ e. c .if1 .left (e ∙ sym (c .before .length-of .ensures .0))))
+
+returns-4 : tie.Need-returns-4
+unfolding frameRefusal unless
+returns-4 c =
+    let a = c .before .before .before .before .before .args in
+    rw (known (c .before .before), eq-eqb (a .count) (lengthOfKind (a .kind)) (c .if2 .taken ∙ c .before .length-of2 .ensures .0))
+
+returns-5 : tie.Need-returns-5
+unfolding frameRefusal unless
+returns-5 c =
+    let a = c .before .before .before .before .before .args in
+    rw (known (c .before .before), ne-eqb (a .count) (lengthOfKind (a .kind)) (λ e. c .if2 .left (e ∙ sym (c .before .length-of2 .ensures .0))))
+
+pub frame-refusal-spec : {M : Type 1} → statement M
+frame-refusal-spec =
+    tie.close
+    (tie.spec
+    sort-of-requires
+    enum-told
+    enum-told-2
+    length-of-requires
+    enum-told-3
+    length-of-requires-2
+    returns
+    returns-2
+    returns-3
+    returns-4
+    returns-5)
