@@ -3,4 +3,5 @@ mod FrameLaws
 mod LineLaws
 mod ListLaws
 mod ReadLaws
+mod TaskLaws
 mod WriteLaws

@@ -1,62 +1,51 @@
+-- `frames::take_frame` meets its contract: kind by kind what the definition says.
+-- Assumes nothing.
+use mathlib.Core.Path.{_∙_, ap}
 use borrow.Author.Needs.{needs}
+use Rattle.frames.specs.Read.{heldBy}
+use Rattle.frames.proofs.TaskLaws.{cores-said, task-said, limit-said, nothing-said}
 use Rattle.frames.proofs.take_frame.Statement.{statement}
 use Rattle.frames.proofs.take_frame.Tie as tie
-use Rattle.frames.proofs.take_frame.Reads as reads
-use Rattle.frames.proofs.take_frame.Lts as lts
-use Rattle.frames.proofs.add_task.Reads as add-task-reads
-use Rattle.frames.proofs.four_bytes.Reads as four-bytes-reads
 
--- src/lib.rt:395:16
 array-read-kind : tie.Need-array-read-kind
 array-read-kind c = search needs
 
--- src/lib.rt:398:19
 array-read-p : tie.Need-array-read-p
 array-read-p c = search needs
 
--- src/lib.rt:402:17
 add-task-requires : tie.Need-add-task-requires
-add-task-requires c κs = ?
+add-task-requires c κs = c .before .before .pre (c .before .match .keys2)
 
--- src/lib.rt:406:24
 array-read-p-2 : tie.Need-array-read-p-2
 array-read-p-2 c = search needs
 
--- src/lib.rt:407:34
 array-read-four-bytes : tie.Need-array-read-four-bytes
 array-read-four-bytes c = search needs
 
--- src/lib.rt:407:44
 array-read-four-bytes-2 : tie.Need-array-read-four-bytes-2
 array-read-four-bytes-2 c = search needs
 
--- src/lib.rt:407:54
 array-read-four-bytes-3 : tie.Need-array-read-four-bytes-3
 array-read-four-bytes-3 c = search needs
 
--- src/lib.rt:407:64
 array-read-four-bytes-4 : tie.Need-array-read-four-bytes-4
 array-read-four-bytes-4 c = search needs
 
--- src/lib.rt:407:13
 four-bytes-requires : tie.Need-four-bytes-requires
 four-bytes-requires c κs = search needs
 
--- src/lib.rt:391:1
 returns : tie.Need-returns
-returns c = ?
+returns c = λ s e q f g. cores-said s _ _ f e g (c .match .keys1)
 
--- src/lib.rt:391:1
 returns-2 : tie.Need-returns-2
-returns-2 c = ?
+unfolding heldBy
+returns-2 c = λ s e q f g. task-said s _ _ f e g _ _ (c .before .before .match .keys2) q (c .add-task .ensures (s .tasks) (ap (λ p. p .list) e))
 
--- src/lib.rt:391:1
 returns-3 : tie.Need-returns-3
-returns-3 c = ?
+returns-3 c = λ s e q f g. limit-said s _ _ f e g _ (c .before .match .keys3) (c .four-bytes .ensures)
 
--- src/lib.rt:391:1
 returns-4 : tie.Need-returns-4
-returns-4 c = ?
+returns-4 c = λ s e q f g. nothing-said s _ _ f e g (c .match .rest .0 .0 .1) (c .match .rest .0 .1) (c .match .rest .1)
 
 pub take-frame-spec : {M : Type 1} → statement M
 take-frame-spec =
