@@ -3,5 +3,6 @@ mod FrameLaws
 mod LineLaws
 mod ListLaws
 mod ReadLaws
+mod ReachLaws
 mod TaskLaws
 mod WriteLaws

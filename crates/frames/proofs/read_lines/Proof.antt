@@ -1,95 +1,95 @@
+-- `frames::read_lines` meets its contract. The loop's invariant: the code's numbers stand for a state from which the rest of the text decides. The measure is what is left of the text.
+-- Assumes nothing.
+use Prim.Native.Nat.{_-_, _≤_}
+use mathlib.Core.Path.{_≡_, refl, sym, ap, _∙_}
+use native.Mathlib.Omega.{arith}
+use borrow.Author.Needs.{needs}
+use borrow.Author.Tests.{not-true, not-false}
+use lib.ListN.{length}
+use Rattle.laws.specs.Lists.{tab}
+use Rattle.frames.specs.Read.{filled}
+use Rattle.frames.proofs.ReachLaws.{Reached, line-passed, number-room, reached-start, line-refused, place-refused, reached-next, no-end, read-all}
 use Rattle.frames.proofs.read_lines.Statement.{statement}
 use Rattle.frames.proofs.read_lines.Tie as tie
-use Rattle.frames.proofs.read_lines.Reads as reads
-use Rattle.frames.proofs.read_lines.Lts as lts
-use Rattle.frames.proofs.blank.Reads as blank-reads
-use Rattle.frames.proofs.frame_at.Reads as frame-at-reads
-use Rattle.frames.proofs.in_place.Reads as in-place-reads
-use Rattle.frames.proofs.line_end.Reads as line-end-reads
-use Rattle.frames.proofs.line_refusal.Reads as line-refusal-reads
-use Rattle.frames.proofs.take_frame.Reads as take-frame-reads
 
 abbrev Inv-loop : tie.InvT-loop
-Inv-loop text p₀ last₀ at₀ p last at = ?
+Inv-loop text p₀ last₀ at₀ p last at = Reached text p last at
 
 abbrev μ-loop : tie.MeasureT-loop
-μ-loop text p₀ last₀ at₀ p last at = ?
+μ-loop text p₀ last₀ at₀ p last at = length text - at
 
--- src/lib.rt:438:9
 blank-requires : tie.Need-blank-requires Inv-loop μ-loop
-blank-requires c κs = ?
+blank-requires c κs = search needs
 
--- src/lib.rt:441:5
 loop-holds : tie.Need-loop-holds Inv-loop μ-loop
-loop-holds c = ?
+unfolding filled tab
+loop-holds c = reached-start _ _ _ (c .blank .ensures) refl
 
--- src/lib.rt:442:13
 line-end-requires : tie.Need-line-end-requires Inv-loop μ-loop
-line-end-requires c κs = ?
+line-end-requires c κs = search needs
 
--- src/lib.rt:443:13
 line-refusal-requires : tie.Need-line-refusal-requires Inv-loop μ-loop
-line-refusal-requires c κs = ?
+line-refusal-requires c κs = search needs
 
--- src/lib.rt:445:13
 blank-requires-2 : tie.Need-blank-requires-2 Inv-loop μ-loop
-blank-requires-2 c κs = ?
+blank-requires-2 c κs = search needs
 
--- src/lib.rt:445:13
 returns : tie.Need-returns Inv-loop μ-loop
-returns c = ?
+returns c =
+    let t = c .before .before .before .before in
+    c .blank2 .ensures
+    ∙ line-refused _ _ _ _ _ (t .before .loop .inv) (t .loop-test .taken) (c .before .before .before .line-end .ensures) _ (c .before .before .line-refusal .ensures) (c .before .if1 .taken)
 
--- src/lib.rt:447:13
 frame-at-requires : tie.Need-frame-at-requires Inv-loop μ-loop
-frame-at-requires c κs = ?
+frame-at-requires c κs =
+    let e = c .before .before .line-end .ensures in
+    let a = c .before .before .before .before .before .before .before .args in
+    (e .behind, e .within, line-passed (a .text .now) _ _ (e .within) (sym (c .before .line-refusal .ensures) ∙ c .if1 .left) .1)
 
--- src/lib.rt:448:22
 array-read-in-place : tie.Need-array-read-in-place Inv-loop μ-loop
-array-read-in-place c = ?
+array-read-in-place c = search needs
 
--- src/lib.rt:448:13
 in-place-requires : tie.Need-in-place-requires Inv-loop μ-loop
-in-place-requires c κs = ?
+in-place-requires c κs = search needs
 
--- src/lib.rt:449:13
 blank-requires-3 : tie.Need-blank-requires-3 Inv-loop μ-loop
-blank-requires-3 c κs = ?
+blank-requires-3 c κs = search needs
 
--- src/lib.rt:449:13
 returns-2 : tie.Need-returns-2 Inv-loop μ-loop
-returns-2 c = ?
+returns-2 c =
+    let t = c .before .before .before .before .before .before .before in
+    c .blank3 .ensures
+    ∙ place-refused _ _ _ _ _ (t .before .loop .inv) (t .loop-test .taken) (c .before .before .before .before .before .before .line-end .ensures) _
+        (sym (c .before .before .before .before .before .line-refusal .ensures) ∙ c .before .before .before .before .if1 .left) (c .before .before .before .frame-at .ensures) (sym (c .before .before .in-place .ensures) ∙ not-true _ (c .before .if2 .taken))
 
--- src/lib.rt:451:9
 take-frame-requires : tie.Need-take-frame-requires Inv-loop μ-loop
-take-frame-requires c κs = ?
+take-frame-requires c κs = λ k. number-room _ _ _ (sym (c .before .in-place .ensures) ∙ not-false _ (c .if2 .left)) k
 
--- src/lib.rt:453:14
 add-at : tie.Need-add-at Inv-loop μ-loop
-add-at c = ?
+add-at c = search needs
 
--- src/lib.rt:441:5
 loop-less : tie.Need-loop-less Inv-loop μ-loop
-loop-less c = ?
+loop-less c = search needs
 
--- src/lib.rt:441:5
 loop-again : tie.Need-loop-again Inv-loop μ-loop
-loop-again c = ?
+loop-again c =
+    let t = c .before .before .before .before .before .before .before in
+    let R = t .before .loop .inv in
+    reached-next _ _ _ _ _ R (t .loop-test .taken) (c .before .before .before .before .before .before .line-end .ensures) _
+        (sym (c .before .before .before .before .before .line-refusal .ensures) ∙ c .before .before .before .before .if1 .left) (c .before .before .before .frame-at .ensures) _ (sym (c .before .before .in-place .ensures) ∙ not-false _ (c .before .if2 .left))
+        (c .take-frame .ensures (R .state) (R .held) (R .frame) _ (c .before .before .before .frame-at .ensures))
 
--- src/lib.rt:455:8
 array-read-if3 : tie.Need-array-read-if3 Inv-loop μ-loop
-array-read-if3 c = ?
+array-read-if3 c = search needs
 
--- src/lib.rt:456:9
 blank-requires-4 : tie.Need-blank-requires-4 Inv-loop μ-loop
-blank-requires-4 c κs = ?
+blank-requires-4 c κs = search needs
 
--- src/lib.rt:456:9
 returns-3 : tie.Need-returns-3 Inv-loop μ-loop
-returns-3 c = ?
+returns-3 c = c .blank4 .ensures ∙ no-end _ _ _ _ (c .before .before .before .loop .inv) (c .before .before .loop-test .left) (c .before .if3 .taken)
 
--- src/lib.rt:435:1
 returns-4 : tie.Need-returns-4 Inv-loop μ-loop
-returns-4 c = ?
+returns-4 c = read-all _ _ _ _ (c .before .before .loop .inv) (c .before .loop-test .left) (c .if3 .left)
 
 pub read-lines-spec : {M : Type 1} → statement M
 read-lines-spec =

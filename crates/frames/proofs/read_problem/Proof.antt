@@ -1,26 +1,27 @@
+-- `frames::read_problem` meets its contract: 20, or what the lines give.
+-- Assumes nothing.
+use mathlib.Core.Path.{sym, ap, _∙_}
 use borrow.Author.Needs.{needs}
+use borrow.Author.Tests.{le-leb, lt-leb}
+use lib.ListN.{length}
+use Rattle.tasks.specs.Refusal.{unless}
+use Rattle.frames.specs.Read.{readWithin, told}
 use Rattle.frames.proofs.read_problem.Statement.{statement}
 use Rattle.frames.proofs.read_problem.Tie as tie
-use Rattle.frames.proofs.read_problem.Reads as reads
-use Rattle.frames.proofs.read_problem.Lts as lts
-use Rattle.frames.proofs.blank.Reads as blank-reads
-use Rattle.frames.proofs.read_lines.Reads as read-lines-reads
 
--- src/lib.rt:466:9
 blank-requires : tie.Need-blank-requires
 blank-requires c κs = search needs
 
--- src/lib.rt:466:9
 returns : tie.Need-returns
-returns c = ?
+unfolding readWithin told unless
+returns c = c .blank .ensures ∙ rw (lt-leb (length (c .before .before .before .args .text .now)) 1024 (c .before .if1 .taken))
 
--- src/lib.rt:468:5
 read-lines-requires : tie.Need-read-lines-requires
 read-lines-requires c κs = search needs
 
--- src/lib.rt:462:1
 returns-2 : tie.Need-returns-2
-returns-2 c = ?
+unfolding readWithin unless
+returns-2 c = c .read-lines .ensures ∙ rw (le-leb (length (c .before .before .before .args .text .now)) 1024 (c .before .if1 .left))
 
 pub read-problem-spec : {M : Type 1} → statement M
 read-problem-spec = tie.close (tie.spec blank-requires returns read-lines-requires returns-2)

@@ -1,0 +1,140 @@
+-- The reading line by line: the state that the code's numbers stand for, and how it goes on or ends.
+-- Assumes nothing.
+use Prim.Native.Nat.{ℕ, zero, suc, _+_, _-_, _/_, _≤_, _<_}
+use native.Mathlib.Decide.{ℕ-discrete}
+use native.Mathlib.Omega.{arith}
+use mathlib.Core.Path.{_≡_, refl, sym, ap, _∙_}
+use mathlib.Core.Logic.{_≢_}
+use mathlib.Core.Bool.{Bool, true, false, cond, not, _&&_, false≢true}
+use mathlib.Core.List.{List, [], _∷_, _++_}
+use borrow.Author.Tests.{ltb-true, leb-true, eqb-true, eq-eqb, ne-eqb}
+use lib.Dec.{T, leb, ltb, eqb}
+use lib.ListN.{length, take, drop, length-append, drop-of-length-le}
+use lib.Seq.{slice, length-slice}
+use Rattle.laws.specs.Tests.{every}
+use Rattle.laws.specs.Lists.{nth, tab}
+use Rattle.tasks.specs.Refusal.{unless}
+use Rattle.frames.specs.Frame.{lengthOfKind, sortOf}
+use Rattle.frames.specs.Lines.{Line, pairs, bytesOf, lines, lineAt, LineEnd}
+use Rattle.frames.specs.Read.{State, start, refused, problem, isKind, mayFollow, rightNumber, inPlace, taskOf, taken, frameRefusal, lineRefusal, placeRefusal, orRead, readLines, listOf, blankOf, heldBy, told, filled}
+use Rattle.frames.specs.declared.Problem.{Problem}
+use Rattle.frames.proofs.FrameLaws.{length-most}
+use Rattle.frames.proofs.LineLaws.{line-cut, bytes-length}
+use Rattle.frames.proofs.ReadLaws.{kind-low}
+
+-- two tests that pass together
+both-pass : (a b : Bool) → a && b ≡ true → (a ≡ true) × (b ≡ true)
+both-pass true b e = (refl, e)
+both-pass false b e = absurd (false≢true e)
+
+-- ---- a line that is not refused
+-- a refusal that is none
+unless-none : (b : Bool) (k next : ℕ) → 0 < k → unless b k next ≡ 0 → (b ≡ true) × (next ≡ 0)
+unfolding unless
+unless-none true k next l e = (refl, e)
+unless-none false k next l e = absurd (omega arith)
+
+-- has a line feed, and at most 10 bytes
+pub line-passed : (text : List ℕ) (from to : ℕ) → to ≤ length text → lineRefusal (lineAt text from to) ≡ 0 → (to < length text) × (to ≤ from + 21)
+unfolding lineRefusal frameRefusal
+line-passed text from to fits e =
+    let a = unless-none _ 21 _ (omega arith) e in
+    let b = unless-none (isKind (sortOf kind)) 22 _ (omega arith) (a .1) in
+    let c = unless-none (eqb (length bytes) (lengthOfKind kind)) 23 _ (omega arith) (b .1) in
+    (ltb-true to (length text) (both-pass _ (pairs part && (not (eqb (length part) 0) && true)) (a .0) .0),
+    omega (arith, eqb-true (length bytes) (lengthOfKind kind) (c .0), length-most kind (kind-low kind (b .0)), bytes-length part, length-slice from to text fits))
+  where
+    part : List ℕ
+    part = slice from to text
+    bytes : List ℕ
+    bytes = bytesOf part
+    kind : ℕ
+    kind = nth bytes 0
+
+-- ---- where the reading stands
+-- an 03 in its place finds room for its task
+pub number-room : (last n : ℕ) (f : List ℕ) → inPlace last n f ≡ true → nth f 0 ≡ 3 → n < 16
+unfolding inPlace rightNumber
+number-room last n f e k =
+    let right : eqb (nth f 1) (suc n) && leb (nth f 1) 16 ≡ true = rw k at (both-pass (mayFollow last (nth f 0)) _ e .1) in
+    let b = both-pass (eqb (nth f 1) (suc n)) (leb (nth f 1) 16) right in
+    omega (arith, eqb-true (nth f 1) (suc n) (b .0), leb-true (nth f 1) 16 (b .1))
+
+-- the state behind the code's numbers, from which the rest of the text decides
+pub record Reached (text : List ℕ) (p : Problem) (last : List ℕ) (at : ℕ) : Type 0 where
+  pub state : State
+  pub held : p ≡ heldBy state
+  pub frame : last ≡ filled (state .last)
+  pub few : length (state .tasks) ≤ 16
+  pub rest : readLines start (lines text) ≡ readLines state (lines (drop at text))
+
+-- before the first line
+pub reached-start : (text : List ℕ) (p : Problem) (zeros : List ℕ) → p ≡ blankOf 0 → zeros ≡ filled [] → Reached text p zeros 0
+unfolding blankOf heldBy
+reached-start text p zeros e z = record { state = start; held = e; frame = z; few = omega arith; rest = refl }
+
+-- at a line
+module _ (text : List ℕ) (p : Problem) (last : List ℕ) (at to : ℕ) (R : Reached text p last at) (l : at < length text) (e : LineEnd text at to) where
+  abbrev lineBytes : List ℕ
+  lineBytes = bytesOf (slice at to text)
+
+  next-line : readLines start (lines text)
+    ≡ orRead (lineRefusal (lineAt text at to)) (orRead (placeRefusal (R .state) lineBytes) (readLines (taken (R .state) lineBytes) (lines (drop (to + 1) text))))
+  unfolding readLines
+  next-line = R .rest ∙ ap (readLines (R .state)) (line-cut text at to l e)
+
+  -- refusals 21 to 23
+  pub line-refused : (k : ℕ) → k ≡ lineRefusal (lineAt text at to) → k ≢ 0 → blankOf k ≡ told (readLines start (lines text))
+  unfolding told
+  line-refused zero q x = absurd (x refl)
+  line-refused (suc k) q x =
+      let refusal : readLines start (lines text) ≡ refused (suc k) = next-line ∙ rw (← q) in
+      sym (ap told refusal)
+
+  module _ (frame : List ℕ) (passed : lineRefusal (lineAt text at to) ≡ 0) (g : frame ≡ filled lineBytes) where
+    place-is : inPlace (nth last 0) (p .list .n) frame ≡ inPlace (nth (R .state .last) 0) (length (R .state .tasks)) lineBytes
+    unfolding inPlace filled tab heldBy listOf
+    place-is = rw (R .frame, R .held, g)
+
+    -- refusal 24
+    pub place-refused : inPlace (nth last 0) (p .list .n) frame ≡ false → blankOf 24 ≡ told (readLines start (lines text))
+    unfolding told placeRefusal unless
+    place-refused q =
+        let refusal : readLines start (lines text) ≡ refused 24 = next-line ∙ rw (passed, sym place-is ∙ q) in
+        sym (ap told refusal)
+
+    -- and on to the next line
+    pub reached-next : (p′ : Problem) → inPlace (nth last 0) (p .list .n) frame ≡ true → p′ ≡ heldBy (taken (R .state) lineBytes) → Reached text p′ frame (to + 1)
+    unfolding taken placeRefusal unless
+    reached-next p′ q h = record {
+      state = taken (R .state) lineBytes;
+      held = h;
+      frame = g;
+      few = elim (ℕ-discrete (nth lineBytes 0) 3) [
+        | yes k ↦ rw (eq-eqb (nth lineBytes 0) 3 k) (omega (arith, length-append (R .state .tasks) (taskOf (R .state .last) lineBytes ∷ []),
+            number-room _ _ _ (sym place-is ∙ q) k))
+        | no x ↦ rw (ne-eqb (nth lineBytes 0) 3 x) (R .few)
+      ];
+      rest = next-line ∙ rw (passed, sym place-is ∙ q);
+    }
+
+-- at the text's end
+module _ (text : List ℕ) (p : Problem) (last : List ℕ) (at : ℕ) (R : Reached text p last at) (l : length text ≤ at) where
+  no-line : readLines start (lines text)
+    ≡ orRead (unless (eqb (nth last 0) 7) 24 0) (problem (R .state .m) (R .state .tasks) (R .state .engine) (R .state .limit))
+  unfolding readLines lines filled tab
+  no-line = R .rest ∙ ap (λ s. readLines (R .state) (lines s)) (drop-of-length-le text l) ∙ rw (R .frame)
+
+  -- 24 where there is no end
+  pub no-end : nth last 0 ≢ 7 → blankOf 24 ≡ told (readLines start (lines text))
+  unfolding told unless
+  no-end x =
+      let refusal : readLines start (lines text) ≡ refused 24 = no-line ∙ rw (ne-eqb (nth last 0) 7 x) in
+      sym (ap told refusal)
+
+  -- else the problem
+  pub read-all : nth last 0 ≡ 7 → p ≡ told (readLines start (lines text))
+  unfolding told unless heldBy
+  read-all k =
+      let read : readLines start (lines text) ≡ problem (R .state .m) (R .state .tasks) (R .state .engine) (R .state .limit) = no-line ∙ rw (eq-eqb (nth last 0) 7 k) in
+      R .held ∙ sym (ap told read)
