@@ -6,15 +6,15 @@ use native.Mathlib.Numerals.{add-one, add-two}
 use native.Mathlib.Omega.{arith}
 use mathlib.Core.Path.{_≡_, refl, sym, ap, _∙_}
 use mathlib.Core.Logic.{_≢_, ⊎-elim}
-use mathlib.Core.Bool.{Bool, true, false, cond, _&&_}
-use mathlib.Core.List.{List, [], _∷_, _++_}
+use mathlib.Core.Bool.{true, false}
+use mathlib.Core.List.{List, [], _∷_}
 use borrow.Author.Tests.{lt-ltb, le-ltb, eq-eqb, ne-eqb}
-use lib.Dec.{eqb, ltb, leb·suc-suc}
-use lib.ListN.{length, getD, set, take, drop, length-take, length-drop, List·getD-eq-default}
+use lib.Dec.{ltb, leb·suc-suc}
+use lib.ListN.{length, set, take, drop, length-take, length-drop, List·getD-eq-default}
 use lib.Seq.{slice, take-all, slice-empty, slice-cons, length-slice, getD-drop, getD-take, drop-drop}
 use Rattle.laws.specs.Lists.{nth}
 use Rattle.laws.proofs.SumLaws.{lt-or-ge}
-use Rattle.frames.specs.Lines.{isDigit, digitOf, pairs, bytesOf, Line, before, lines, lineAt, LineEnd}
+use Rattle.frames.specs.Lines.{isDigit, digitOf, pairs, bytesOf, before, lines, lineAt, LineEnd}
 use Rattle.frames.specs.Read.{filled}
 use Rattle.frames.proofs.ListLaws.{tab-set, slice-is}
 
@@ -43,23 +43,31 @@ line-cut text from to l e = first-line (drop from text) n (omega (arith, size)) 
   where
     n : ℕ
     n = to - from
+
     size : length (drop from text) ≡ length text - from
     size = length-drop from text
+
     whole : from + n ≡ to
     whole = omega (arith, e .behind)
+
     none : (k : ℕ) → k < n → nth (drop from text) k ≢ 10
     none k m q = e .none-before (from + k) (omega arith) (omega arith) (sym (getD-drop from text k 0) ∙ q)
+
     feed : n < length (drop from text) → nth (drop from text) n ≡ 10
     feed m = getD-drop from text n 0 ∙ ap (nth text) whole ∙ e .feed (omega (arith, size))
+
     texts : take n (drop from text) ≡ slice from to text
     texts = sym (slice-is from n text) ∙ ap (λ t. slice from t text) whole
+
     ends : ltb n (length (drop from text)) ≡ ltb to (length text)
     ends = ⊎-elim
         (λ h. lt-ltb n (length (drop from text)) (omega (arith, size)) ∙ sym (lt-ltb to (length text) h))
         (λ h. le-ltb n (length (drop from text)) (omega (arith, size)) ∙ sym (le-ltb to (length text) h))
         (lt-or-ge to (length text))
+
     next : from + suc n ≡ to + 1
     next = omega (arith, whole)
+
     rest : drop (suc n) (drop from text) ≡ drop (to + 1) text
     rest = drop-drop (suc n) from text ∙ ap (λ k. drop k text) next
 
@@ -108,7 +116,7 @@ unfolding bytesOf
 byte-at [] k h = absurd (omega arith)
 byte-at (a ∷ []) k h = absurd (omega arith)
 byte-at (a ∷ b ∷ s) zero h = refl
-byte-at (a ∷ b ∷ s) (suc k) h = 
+byte-at (a ∷ b ∷ s) (suc k) h =
     let p : suc k * 2 + 1 ≡ suc (suc (k * 2 + 1)) = omega arith in
     let q : suc k * 2 ≡ suc (suc (k * 2)) = omega arith in
     rw (p, q) (byte-at s k (omega arith))
@@ -125,7 +133,7 @@ module _ (bytes : List ℕ) where
       beside j y = ⊎-elim
           (λ h. getD-take (k + 1) bytes j 0 (omega arith) ∙ sym (getD-take k bytes j 0 h))
           (λ h. List·getD-eq-default (take (k + 1) bytes) 0 (omega (arith, length-take (k + 1) bytes))
-              ∙ sym (List·getD-eq-default (take k bytes) 0 (omega (arith, length-take k bytes))))
+          ∙ sym (List·getD-eq-default (take k bytes) 0 (omega (arith, length-take k bytes))))
           (lt-or-ge j k)
 
   -- the whole of it
@@ -139,9 +147,12 @@ part-byte text from to k x fits l e = e ∙ sym (byte-at (slice from to text) k 
   where
     at : (j : ℕ) → from + j < to → nth (slice from to text) j ≡ nth text (from + j)
     at j h = getD-drop from (take to text) j 0 ∙ getD-take to text (from + j) 0 h
+
     high : nth (slice from to text) (k * 2) ≡ nth text (from + k * 2)
     high = at (k * 2) (omega arith)
+
     next : from + (k * 2 + 1) ≡ from + k * 2 + 1
     next = omega arith
+
     low : nth (slice from to text) (k * 2 + 1) ≡ nth text (from + k * 2 + 1)
     low = at (k * 2 + 1) (omega arith) ∙ ap (nth text) next

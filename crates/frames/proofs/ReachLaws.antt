@@ -1,21 +1,20 @@
 -- The reading line by line: the state that the code's numbers stand for, and how it goes on or ends.
 -- Assumes nothing.
-use Prim.Native.Nat.{ℕ, zero, suc, _+_, _-_, _/_, _≤_, _<_}
+use Prim.Native.Nat.{ℕ, zero, suc, _+_, _≤_, _<_}
 use native.Mathlib.Decide.{ℕ-discrete}
 use native.Mathlib.Omega.{arith}
 use mathlib.Core.Path.{_≡_, refl, sym, ap, _∙_}
 use mathlib.Core.Logic.{_≢_}
-use mathlib.Core.Bool.{Bool, true, false, cond, not, _&&_, false≢true}
-use mathlib.Core.List.{List, [], _∷_, _++_}
+use mathlib.Core.Bool.{Bool, true, false, not, _&&_, false≢true}
+use mathlib.Core.List.{List, [], _∷_}
 use borrow.Author.Tests.{ltb-true, leb-true, eqb-true, eq-eqb, ne-eqb}
-use lib.Dec.{T, leb, ltb, eqb}
-use lib.ListN.{length, take, drop, length-append, drop-of-length-le}
+use lib.Dec.{leb, eqb}
+use lib.ListN.{length, drop, length-append, drop-of-length-le}
 use lib.Seq.{slice, length-slice}
-use Rattle.laws.specs.Tests.{every}
 use Rattle.laws.specs.Lists.{nth, tab}
 use Rattle.tasks.specs.Refusal.{unless}
 use Rattle.frames.specs.Frame.{lengthOfKind, sortOf}
-use Rattle.frames.specs.Lines.{Line, pairs, bytesOf, lines, lineAt, LineEnd}
+use Rattle.frames.specs.Lines.{pairs, bytesOf, lines, lineAt, LineEnd}
 use Rattle.frames.specs.Read.{State, start, refused, problem, isKind, mayFollow, rightNumber, inPlace, taskOf, taken, frameRefusal, lineRefusal, placeRefusal, orRead, readLines, listOf, blankOf, heldBy, told, filled}
 use Rattle.frames.specs.declared.Problem.{Problem}
 use Rattle.frames.proofs.FrameLaws.{length-most}
@@ -40,14 +39,17 @@ unfolding lineRefusal frameRefusal
 line-passed text from to fits e =
     let a = unless-none _ 21 _ (omega arith) e in
     let b = unless-none (isKind (sortOf kind)) 22 _ (omega arith) (a .1) in
-    let c = unless-none (eqb (length bytes) (lengthOfKind kind)) 23 _ (omega arith) (b .1) in
-    (ltb-true to (length text) (both-pass _ (pairs part && (not (eqb (length part) 0) && true)) (a .0) .0),
-    omega (arith, eqb-true (length bytes) (lengthOfKind kind) (c .0), length-most kind (kind-low kind (b .0)), bytes-length part, length-slice from to text fits))
+    let c = unless-none (eqb (length bytes) (lengthOfKind kind)) 23 _ (omega arith) (b .1) in (
+      ltb-true to (length text) (both-pass _ (pairs part && (not (eqb (length part) 0) && true)) (a .0) .0),
+      omega (arith, eqb-true (length bytes) (lengthOfKind kind) (c .0), length-most kind (kind-low kind (b .0)), bytes-length part, length-slice from to text fits),
+    )
   where
     part : List ℕ
     part = slice from to text
+
     bytes : List ℕ
     bytes = bytesOf part
+
     kind : ℕ
     kind = nth bytes 0
 
@@ -79,7 +81,7 @@ module _ (text : List ℕ) (p : Problem) (last : List ℕ) (at to : ℕ) (R : Re
   lineBytes = bytesOf (slice at to text)
 
   next-line : readLines start (lines text)
-    ≡ orRead (lineRefusal (lineAt text at to)) (orRead (placeRefusal (R .state) lineBytes) (readLines (taken (R .state) lineBytes) (lines (drop (to + 1) text))))
+      ≡ orRead (lineRefusal (lineAt text at to)) (orRead (placeRefusal (R .state) lineBytes) (readLines (taken (R .state) lineBytes) (lines (drop (to + 1) text))))
   unfolding readLines
   next-line = R .rest ∙ ap (readLines (R .state)) (line-cut text at to l e)
 
@@ -111,8 +113,11 @@ module _ (text : List ℕ) (p : Problem) (last : List ℕ) (at to : ℕ) (R : Re
       held = h;
       frame = g;
       few = elim (ℕ-discrete (nth lineBytes 0) 3) [
-        | yes k ↦ rw (eq-eqb (nth lineBytes 0) 3 k) (omega (arith, length-append (R .state .tasks) (taskOf (R .state .last) lineBytes ∷ []),
-            number-room _ _ _ (sym place-is ∙ q) k))
+        | yes k ↦ rw (eq-eqb (nth lineBytes 0) 3 k) (omega (
+          arith,
+          length-append (R .state .tasks) (taskOf (R .state .last) lineBytes ∷ []),
+          number-room _ _ _ (sym place-is ∙ q) k,
+        ))
         | no x ↦ rw (ne-eqb (nth lineBytes 0) 3 x) (R .few)
       ];
       rest = next-line ∙ rw (passed, sym place-is ∙ q);
@@ -121,7 +126,7 @@ module _ (text : List ℕ) (p : Problem) (last : List ℕ) (at to : ℕ) (R : Re
 -- at the text's end
 module _ (text : List ℕ) (p : Problem) (last : List ℕ) (at : ℕ) (R : Reached text p last at) (l : length text ≤ at) where
   no-line : readLines start (lines text)
-    ≡ orRead (unless (eqb (nth last 0) 7) 24 0) (problem (R .state .m) (R .state .tasks) (R .state .engine) (R .state .limit))
+      ≡ orRead (unless (eqb (nth last 0) 7) 24 0) (problem (R .state .m) (R .state .tasks) (R .state .engine) (R .state .limit))
   unfolding readLines lines filled tab
   no-line = R .rest ∙ ap (λ s. readLines (R .state) (lines s)) (drop-of-length-le text l) ∙ rw (R .frame)
 

@@ -1,16 +1,16 @@
 -- Frames in their place, what each says, and the reading line by line.
 -- Assumes nothing.
-use Prim.Native.Nat.{ℕ, zero, suc, _+_, _*_, _-_, _/_, _%_, _≤_, _<_}
+use Prim.Native.Nat.{ℕ, suc, _+_, _*_, _-_, _/_, _≤_, _<_}
 use native.Mathlib.Nat.{add-zero}
 use native.Mathlib.Decide.{ℕ-discrete}
 use native.Mathlib.Numerals.{add-one}
 use native.Mathlib.Omega.{arith}
 use mathlib.Core.Path.{_≡_, refl, sym, ap, _∙_}
 use mathlib.Core.Logic.{_≢_, ⊎-elim}
-use mathlib.Core.Bool.{Bool, true, false, cond, not, _&&_, _||_, true≢false}
-use mathlib.Core.List.{List, [], _∷_, _++_}
+use mathlib.Core.Bool.{Bool, true, false, not, _||_, true≢false}
+use mathlib.Core.List.{List, [], _∷_}
 use borrow.Author.Tests.{lt-ltb, le-ltb, le-leb, lt-leb, eq-eqb, ne-eqb}
-use lib.Dec.{leb, ltb, eqb}
+use lib.Dec.{ltb, eqb}
 use lib.ListN.{length}
 use lib.Seq.{slice, length-slice}
 use Rattle.laws.specs.Lists.{nth}
@@ -68,6 +68,7 @@ module _ (text : List ℕ) (from to : ℕ) (fits : to ≤ length text) where
     where
       first : kind ≡ nth (bytesOf (slice from to text)) 0
       first = part-byte text from to 0 kind fits (omega arith) (q ∙ rw (add-zero from))
+
       count : length (bytesOf (slice from to text)) ≡ (to - from) / 2
       count = bytes-length (slice from to text) ∙ ap (λ n. n / 2) (length-slice from to text fits)
 

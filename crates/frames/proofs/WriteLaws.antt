@@ -31,21 +31,23 @@ digits-append (b ∷ f) g = rw (digits-append f g)
 module _ (out₀ : List ℕ) (at : ℕ) (frame : List ℕ) where
   -- one more byte of a frame
   pub one-byte : (k : ℕ) (out out′ : List ℕ) → k < length frame → out ≡ sets out₀ at (digits (take k frame))
-    → out′ ≡ sets out (at + k * 2) (digits (nth frame k ∷ [])) → out′ ≡ sets out₀ at (digits (take (k + 1) frame))
+      → out′ ≡ sets out (at + k * 2) (digits (nth frame k ∷ [])) → out′ ≡ sets out₀ at (digits (take (k + 1) frame))
   one-byte k out out′ l e e′ =
       e′ ∙ ap (λ o. sets o (at + k * 2) last) e ∙ ap (λ j. sets (sets out₀ at (digits (take k frame))) (at + j) last) (sym size)
       ∙ sym (sets-append (digits (take k frame)) last out₀ at) ∙ ap (sets out₀ at) whole
     where
       last : List ℕ
       last = digits (nth frame k ∷ [])
+
       size : length (digits (take k frame)) ≡ k * 2
       size = digits-length (take k frame) ∙ ap (λ n. n * 2) (length-take-le k frame (omega arith))
+
       whole : digits (take k frame) ++ last ≡ digits (take (k + 1) frame)
       whole = sym (digits-append (take k frame) (nth frame k ∷ [])) ∙ ap digits (sym (take-suc frame k 0 l) ∙ ap (λ n. take n frame) (sym (add-one k)))
 
   -- and the line feed behind the last
   pub line-end : (k n m : ℕ) (out : List ℕ) → k ≡ n → n ≡ m → n ≤ length frame → out ≡ sets out₀ at (digits (take k frame))
-    → set out (at + n * 2) 10 ≡ sets out₀ at (lineOf (take m frame))
+      → set out (at + n * 2) 10 ≡ sets out₀ at (lineOf (take m frame))
   unfolding lineOf
   line-end k n m out q r l e =
       ap (λ o. set o (at + n * 2) 10) (e ∙ ap (λ x. sets out₀ at (digits (take x frame))) q)
@@ -133,20 +135,27 @@ answer-written out₀ verdict tries H m table can shown r₁ r₂ r₃ out₁ ou
   where
     A : List ℕ
     A = lineOf (verdictFrame verdict tries)
+
     B : List ℕ
     B = slotLines shown m table
+
     C : List ℕ
     C = lineOf (7 ∷ [])
+
     size-AB : length (A ++ B) ≡ 13 + shown * 15
     size-AB = length-append A B ∙ ap (λ n. 13 + n) (slots-length shown m table)
+
     size : length (A ++ B ++ C) ≡ length (A ++ B) + 3
     size = length-append (A ++ B) C
+
     two-parts : out₂ ≡ sets out₀ 0 (A ++ B)
     two-parts =
         e₂ ∙ ap (λ o. sets o r₁ B) e₁ ∙ ap (λ j. sets (sets out₀ 0 A) j B) a₁ ∙ sym (sets-append A B out₀ 0)
+
     all : out₃ ≡ sets out₀ 0 (A ++ B ++ C)
     all =
         e₃ ∙ ap (λ o. sets o r₂ C) two-parts ∙ ap (λ j. sets (sets out₀ 0 (A ++ B)) j C) (omega (arith, size-AB))
         ∙ sym (sets-append (A ++ B) C out₀ 0)
+
     placed : sets out₀ 0 (A ++ B ++ C) ≡ A ++ B ++ C ++ drop (length (A ++ B ++ C)) out₀
     placed = sets-eq (A ++ B ++ C) out₀ 0 (omega (arith, size-AB, size)) ∙ ap (λ n. A ++ B ++ C ++ drop n out₀) (zero-add (length (A ++ B ++ C)))

@@ -10,8 +10,10 @@ ghost use Rattle.frames.specs.Lines.{isDigit, digitOf, pairs, bytesOf, l
 ghost use Rattle.tasks.specs.declared.Task.{Task};
 ghost use Rattle.frames.specs.Read.{State, start, mayFollow, rightNumber, inPlace, taskOf, taken, frameRefusal, lineRefusal, readLines, readProblem, listOf, blankOf, heldBy, told, filled};
 ghost use Rattle.frames.specs.Write.{hexOf, digits, lineOf, verdictFrame, cellAt, slotFrame, slotLines, canWrite, writeAnswer, Written};
-
-use tasks::{TaskList, MAX_CORES, MAX_SLOTS, MAX_TASKS};
+use tasks::MAX_CORES;
+use tasks::MAX_SLOTS;
+use tasks::MAX_TASKS;
+use tasks::TaskList;
 
 // Each kind of frame has its fixed length in bytes.
 const LENGTHS: [u8; 8] = [0, 2, 10, 6, 6, 6, 7, 1];
@@ -95,11 +97,7 @@ fn hex(x: u8) -> u8
     requires { ⌜ x ≤ 15 ⌝ }
     ensures { λ r. ⌜ r ≡ hexOf x ⌝ }
 {
-    if x < 10 {
-        b'0' + x
-    } else {
-        b'A' + (x - 10)
-    }
+    if x < 10 { b'0' + x } else { b'A' + (x - 10) }
 }
 
 // A number of two bytes, high byte first.

@@ -111,7 +111,7 @@ returns : tie.Need-returns
 returns c =
     let a = c .before .before .before .before in
     task-added (a .args .t1) (a .args .t2) (a .args .t3) _ _ _ _ (a .pre)
-        (c .before .before .before .two-bytes .ensures) (c .before .before .two-bytes2 .ensures) (c .before .two-bytes3 .ensures) (c .two-bytes4 .ensures)
+    (c .before .before .before .two-bytes .ensures) (c .before .before .two-bytes2 .ensures) (c .before .two-bytes3 .ensures) (c .two-bytes4 .ensures)
 
 pub add-task-spec : {M : Type 1} → statement M
 add-task-spec =

@@ -1,7 +1,7 @@
 -- `frames::are_pairs` meets its contract. The loop's invariant: what is left decides. The measure is its length.
 -- Assumes nothing.
-use Prim.Native.Nat.{ℕ, _-_, _≤_, _<_}
-use mathlib.Core.Path.{_≡_, refl, ap, _∙_, sym}
+use Prim.Native.Nat.{_-_, _≤_}
+use mathlib.Core.Path.{_≡_, refl, _∙_, sym}
 use native.Mathlib.Omega.{arith}
 use borrow.Author.Needs.{needs}
 use borrow.Author.Tests.{not-true, not-false}
@@ -39,7 +39,7 @@ returns-2 c =
     let a = c .before .before .before .before .before .before .before in
     let i = c .before .before .before .before .before .loop in
     sym (i .inv .1 ∙ pair-first (a .args .text .now) (a .args .to) (a .pre .1) (i .i) (omega arith)
-        (sym (c .before .is-digit .ensures) ∙ not-true _ (c .if2 .taken)))
+    (sym (c .before .is-digit .ensures) ∙ not-true _ (c .if2 .taken)))
 
 add-is-digit : tie.Need-add-is-digit Inv-loop μ-loop
 add-is-digit c = search needs
@@ -55,8 +55,8 @@ returns-3 c =
     let a = c .before .before .before .before .before .before .before .before .before .before in
     let i = c .before .before .before .before .before .before .before .before .loop in
     sym (i .inv .1 ∙ pair-second (a .args .text .now) (a .args .to) (a .pre .1) (i .i) (omega arith)
-        (sym (c .before .before .before .before .is-digit .ensures) ∙ not-false _ (c .before .before .before .if2 .left))
-        (sym (c .before .is-digit2 .ensures) ∙ not-true _ (c .if3 .taken)))
+    (sym (c .before .before .before .before .is-digit .ensures) ∙ not-false _ (c .before .before .before .if2 .left))
+    (sym (c .before .is-digit2 .ensures) ∙ not-true _ (c .if3 .taken)))
 
 add-i : tie.Need-add-i Inv-loop μ-loop
 add-i c = search needs
@@ -67,10 +67,12 @@ loop-less c = search needs
 loop-again : tie.Need-loop-again Inv-loop μ-loop
 loop-again c =
     let a = c .before .before .before .before .before .before .before .before .before .before in
-    let i = c .before .before .before .before .before .before .before .before .loop in
-    (omega arith, i .inv .1 ∙ pair-both (a .args .text .now) (a .args .to) (a .pre .1) (i .i) (omega arith)
-        (sym (c .before .before .before .before .is-digit .ensures) ∙ not-false _ (c .before .before .before .if2 .left))
-        (sym (c .before .is-digit2 .ensures) ∙ not-false _ (c .if3 .left)))
+    let i = c .before .before .before .before .before .before .before .before .loop in (
+      omega arith,
+      i .inv .1 ∙ pair-both (a .args .text .now) (a .args .to) (a .pre .1) (i .i) (omega arith)
+          (sym (c .before .before .before .before .is-digit .ensures) ∙ not-false _ (c .before .before .before .if2 .left))
+          (sym (c .before .is-digit2 .ensures) ∙ not-false _ (c .if3 .left)),
+    )
 
 returns-4 : tie.Need-returns-4 Inv-loop μ-loop
 returns-4 c =

@@ -1,7 +1,6 @@
 -- `frames::blank` meets its contract: an empty list is 0 throughout.
 -- Assumes nothing.
 use mathlib.Core.Path.{refl}
-use borrow.Author.Needs.{needs}
 use Rattle.laws.specs.Lists.{tab}
 use Rattle.frames.specs.Read.{listOf, blankOf}
 use Rattle.frames.proofs.blank.Statement.{statement}

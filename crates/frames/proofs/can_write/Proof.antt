@@ -4,7 +4,6 @@ use mathlib.Core.Path.{sym}
 use mathlib.Core.Bool.{and-true}
 use native.Mathlib.Nat.{mul-le-mul}
 use native.Mathlib.Omega.{arith}
-use borrow.Author.Needs.{needs}
 use borrow.Author.Tests.{le-leb, lt-leb}
 use Rattle.frames.specs.Write.{canWrite}
 use Rattle.frames.proofs.can_write.Statement.{statement}

@@ -1,8 +1,6 @@
 -- `frames::cell_at` meets its contract: a cell of the table, or 0 beyond the cores.
 -- Assumes nothing.
 use mathlib.Core.Path.{sym}
-use native.Mathlib.Nat.{mul-le-mul}
-use native.Mathlib.Omega.{arith}
 use borrow.Author.Needs.{needs}
 use Rattle.laws.proofs.SumLaws.{gate-lt, gate-ge}
 use Rattle.frames.specs.Write.{cellAt}

@@ -1,6 +1,6 @@
 -- `frames::frame_at` meets its contract. The loop's invariant: the bytes passed stand in the frame. The measure is what is left of them.
 -- Assumes nothing.
-use Prim.Native.Nat.{ℕ, _-_, _≤_, _<_}
+use Prim.Native.Nat.{_-_, _≤_}
 use mathlib.Core.Path.{_≡_, refl}
 use native.Mathlib.Omega.{arith}
 use borrow.Author.Needs.{needs}
@@ -56,16 +56,18 @@ loop-less c = search needs
 loop-again : tie.Need-loop-again Inv-loop μ-loop
 loop-again c =
     let a = c .before .before .before .before .before .before in
-    let k = c .before .before .before .before .loop in
-    (omega arith, filled-more (bytesOf (slice (a .args .from) (a .args .to) (a .args .text .now))) _ (k .k) _ (omega arith) (k .inv .1)
-        (part-byte (a .args .text .now) (a .args .from) (a .args .to) (k .k) _ (a .pre .1) (omega arith) (c .pair .ensures)))
+    let k = c .before .before .before .before .loop in (
+      omega arith,
+      filled-more (bytesOf (slice (a .args .from) (a .args .to) (a .args .text .now))) _ (k .k) _ (omega arith) (k .inv .1)
+          (part-byte (a .args .text .now) (a .args .from) (a .args .to) (k .k) _ (a .pre .1) (omega arith) (c .pair .ensures)),
+    )
 
 returns : tie.Need-returns Inv-loop μ-loop
 returns c =
     let a = c .before .before .before in
     let part = slice (a .args .from) (a .args .to) (a .args .text .now) in
     filled-all (bytesOf part) _ (c .before .loop .k)
-        (omega (arith, bytes-length part, length-slice (a .args .from) (a .args .to) (a .args .text .now) (a .pre .1))) (c .before .loop .inv .1)
+    (omega (arith, bytes-length part, length-slice (a .args .from) (a .args .to) (a .args .text .now) (a .pre .1))) (c .before .loop .inv .1)
 
 pub frame-at-spec : {M : Type 1} → statement M
 frame-at-spec =

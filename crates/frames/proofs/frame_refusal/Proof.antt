@@ -1,7 +1,6 @@
 -- `frames::frame_refusal` meets its contract: the sort of the kind, and then the length, decide as in the definition.
 -- Assumes nothing.
 use mathlib.Core.Path.{_≡_, sym, ap, _∙_}
-use mathlib.Core.Bool.{true}
 use borrow.Author.Needs.{needs}
 use borrow.Author.Tests.{eq-eqb, ne-eqb}
 use Rattle.tasks.specs.Refusal.{unless}

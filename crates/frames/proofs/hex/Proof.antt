@@ -6,23 +6,17 @@ use Rattle.frames.specs.Write.{hexOf}
 use borrow.Author.Needs.{needs}
 use Rattle.frames.proofs.hex.Statement.{statement}
 use Rattle.frames.proofs.hex.Tie as tie
-use Rattle.frames.proofs.hex.Reads as reads
-use Rattle.frames.proofs.hex.Lts as lts
 
--- src/lib.rt:78:9
 add-result : tie.Need-add-result
 add-result c = search needs
 
--- src/lib.rt:80:9
 add-result-2 : tie.Need-add-result-2
 add-result-2 c = search needs
 
--- src/lib.rt:73:1
 returns : tie.Need-returns
 unfolding hexOf
 returns c = rw (lt-ltb (c .before .args .x) 10 (c .if1 .taken))
 
--- src/lib.rt:73:1
 returns-2 : tie.Need-returns-2
 unfolding hexOf
 returns-2 c = rw (le-ltb (c .before .args .x) 10 (c .if1 .left)) (omega arith)

@@ -1,7 +1,6 @@
 -- `frames::line_refusal` meets its contract: 21 for a line that is not one, else what its frame gives.
 -- Assumes nothing.
 use mathlib.Core.Path.{sym, _∙_}
-use native.Mathlib.Omega.{arith}
 use borrow.Author.Needs.{needs}
 use borrow.Author.Tests.{not-true, not-false}
 use Rattle.frames.proofs.ReadLaws.{not-ended, too-short, not-pairs, whole-line}
@@ -52,7 +51,7 @@ returns-4 c =
     let a = c .before .before .before .before .before .before .before .before .before in
     c .frame-refusal .ensures
     ∙ whole-line (a .args .text .now) (a .args .from) (a .args .to) (a .pre .1) _ (c .before .before .before .before .before .before .before .if1 .left) (c .before .before .before .before .before .before .if2 .left)
-        (sym (c .before .before .before .before .before .are-pairs .ensures) ∙ not-false _ (c .before .before .before .before .if3 .left)) (c .before .pair .ensures)
+    (sym (c .before .before .before .before .before .are-pairs .ensures) ∙ not-false _ (c .before .before .before .before .if3 .left)) (c .before .pair .ensures)
 
 pub line-refusal-spec : {M : Type 1} → statement M
 line-refusal-spec =

@@ -1,8 +1,7 @@
 -- `frames::may_follow` meets its contract: its cases are the definition's.
 -- Assumes nothing.
-use mathlib.Core.Path.{sym, ap, _∙_}
+use mathlib.Core.Path.{sym, _∙_}
 use mathlib.Core.Logic.{⊎-elim}
-use native.Mathlib.Omega.{arith}
 use Rattle.frames.specs.Read.{mayFollow}
 use Rattle.frames.proofs.FrameLaws.{after-tasks, none-of, after-end}
 use Rattle.frames.proofs.may_follow.Statement.{statement}

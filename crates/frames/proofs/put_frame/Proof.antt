@@ -1,7 +1,7 @@
 -- `frames::put_frame` meets its contract. The loop's invariant: the digits of the bytes passed stand from `at` on. The measure is what is left of the frame.
 -- Assumes nothing.
 use Prim.Native.Nat.{_+_, _*_, _-_, _≤_}
-use mathlib.Core.Path.{_≡_, refl, sym, ap, _∙_}
+use mathlib.Core.Path.{_≡_, refl, ap, _∙_}
 use native.Mathlib.Omega.{arith}
 use borrow.Author.Needs.{needs}
 use lib.ListN.{length, take, length-set}
@@ -46,10 +46,10 @@ loop-less : tie.Need-loop-less Inv-loop μ-loop
 loop-less c = search needs
 
 loop-again : tie.Need-loop-again Inv-loop μ-loop
-loop-again c = 
+loop-again c =
     let a = c .before .before .before .before .before .before .before .before .args in
     let e = one-byte (a .out .now) (a .at) (a .t3) (c .before .before .before .before .before .loop .k) _ _ (omega arith)
-        (c .before .before .before .before .before .loop .inv .2) (c .before .before .put-byte .ensures) in
+    (c .before .before .before .before .before .loop .inv .2) (c .before .before .put-byte .ensures) in
     (omega arith, ap length e ∙ simp length-sets, e)
 
 mul-out : tie.Need-mul-out Inv-loop μ-loop
@@ -76,9 +76,10 @@ same-length c = simp length-set (omega arith)
 returns : tie.Need-returns Inv-loop μ-loop
 returns c =
     let a = c .before .before .before .before .args in
-    let n = c .before .before .length-of in
-    (ap (λ x. a .at + (x * 2 + 1)) (n .ensures .0),
-    line-end (a .out .now) (a .at) (a .t3) (c .before .loop .k) _ _ _ (omega arith) (n .ensures .0) (omega arith) (c .before .loop .inv .2))
+    let n = c .before .before .length-of in (
+      ap (λ x. a .at + (x * 2 + 1)) (n .ensures .0),
+      line-end (a .out .now) (a .at) (a .t3) (c .before .loop .k) _ _ _ (omega arith) (n .ensures .0) (omega arith) (c .before .loop .inv .2),
+    )
 
 pub put-frame-spec : {M : Type 1} → statement M
 put-frame-spec =

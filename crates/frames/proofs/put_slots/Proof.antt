@@ -2,7 +2,7 @@
 -- Assumes nothing.
 use Prim.Native.Nat.{_+_, _*_, _-_, _≤_}
 use Rattle.laws.specs.Lists.{nth}
-use mathlib.Core.Path.{_≡_, refl, sym, ap, _∙_}
+use mathlib.Core.Path.{_≡_, refl, ap, _∙_}
 use native.Mathlib.Omega.{arith}
 use borrow.Author.Needs.{needs}
 use lib.ListN.{length}
@@ -42,10 +42,10 @@ unfolding slotFrame
 loop-again c =
     let a = c .before .before .before .before .before .before .before .before .before .args in
     let e = one-slot (a .out .now) (a .at) (c .before .before .before .before .before .before .loop .t) (a .m) (a .table .now) _ _ _ _
-        (c .before .before .before .before .before .before .loop .inv .3) (c .before .before .before .before .before .before .loop .inv .1)
-        (c .before .before .before .slot-frame .ensures) (c .before .before .put-frame .ensures .1) in
+    (c .before .before .before .before .before .before .loop .inv .3) (c .before .before .before .before .before .before .loop .inv .1)
+    (c .before .before .before .slot-frame .ensures) (c .before .before .put-frame .ensures .1) in
     let n = frame-next (c .before .before .before .slot-frame .result) 6 _ _ (ap (λ f. nth f 0) (c .before .before .before .slot-frame .ensures))
-        (c .before .before .put-frame .ensures .0) in
+    (c .before .before .put-frame .ensures .0) in
     (omega arith, omega arith, ap length e ∙ simp length-sets, e)
 
 same-length : tie.Need-same-length Inv-loop μ-loop

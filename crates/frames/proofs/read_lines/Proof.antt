@@ -1,8 +1,7 @@
 -- `frames::read_lines` meets its contract. The loop's invariant: the code's numbers stand for a state from which the rest of the text decides. The measure is what is left of the text.
 -- Assumes nothing.
-use Prim.Native.Nat.{_-_, _≤_}
-use mathlib.Core.Path.{_≡_, refl, sym, ap, _∙_}
-use native.Mathlib.Omega.{arith}
+use Prim.Native.Nat.{_-_}
+use mathlib.Core.Path.{refl, sym, _∙_}
 use borrow.Author.Needs.{needs}
 use borrow.Author.Tests.{not-true, not-false}
 use lib.ListN.{length}
@@ -60,7 +59,7 @@ returns-2 c =
     let t = c .before .before .before .before .before .before .before in
     c .blank3 .ensures
     ∙ place-refused _ _ _ _ _ (t .before .loop .inv) (t .loop-test .taken) (c .before .before .before .before .before .before .line-end .ensures) _
-        (sym (c .before .before .before .before .before .line-refusal .ensures) ∙ c .before .before .before .before .if1 .left) (c .before .before .before .frame-at .ensures) (sym (c .before .before .in-place .ensures) ∙ not-true _ (c .before .if2 .taken))
+    (sym (c .before .before .before .before .before .line-refusal .ensures) ∙ c .before .before .before .before .if1 .left) (c .before .before .before .frame-at .ensures) (sym (c .before .before .in-place .ensures) ∙ not-true _ (c .before .if2 .taken))
 
 take-frame-requires : tie.Need-take-frame-requires Inv-loop μ-loop
 take-frame-requires c κs = λ k. number-room _ _ _ (sym (c .before .in-place .ensures) ∙ not-false _ (c .if2 .left)) k
@@ -76,8 +75,8 @@ loop-again c =
     let t = c .before .before .before .before .before .before .before in
     let R = t .before .loop .inv in
     reached-next _ _ _ _ _ R (t .loop-test .taken) (c .before .before .before .before .before .before .line-end .ensures) _
-        (sym (c .before .before .before .before .before .line-refusal .ensures) ∙ c .before .before .before .before .if1 .left) (c .before .before .before .frame-at .ensures) _ (sym (c .before .before .in-place .ensures) ∙ not-false _ (c .before .if2 .left))
-        (c .take-frame .ensures (R .state) (R .held) (R .frame) _ (c .before .before .before .frame-at .ensures))
+    (sym (c .before .before .before .before .before .line-refusal .ensures) ∙ c .before .before .before .before .if1 .left) (c .before .before .before .frame-at .ensures) _ (sym (c .before .before .in-place .ensures) ∙ not-false _ (c .before .if2 .left))
+    (c .take-frame .ensures (R .state) (R .held) (R .frame) _ (c .before .before .before .frame-at .ensures))
 
 array-read-if3 : tie.Need-array-read-if3 Inv-loop μ-loop
 array-read-if3 c = search needs

@@ -1,6 +1,5 @@
 -- `frames::sort_of` meets its contract: its ranges are the definition's.
 -- Assumes nothing.
-use mathlib.Core.Path.{refl}
 use native.Mathlib.Omega.{arith}
 use borrow.Author.Tests.{ne-eqb}
 use Rattle.frames.specs.Frame.{sortOf}

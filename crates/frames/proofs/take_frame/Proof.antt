@@ -1,6 +1,6 @@
 -- `frames::take_frame` meets its contract: kind by kind what the definition says.
 -- Assumes nothing.
-use mathlib.Core.Path.{_∙_, ap}
+use mathlib.Core.Path.{ap}
 use borrow.Author.Needs.{needs}
 use Rattle.frames.specs.Read.{heldBy}
 use Rattle.frames.proofs.TaskLaws.{cores-said, task-said, limit-said, nothing-said}

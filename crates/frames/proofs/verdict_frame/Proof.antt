@@ -1,28 +1,23 @@
+-- `frames::verdict_frame` meets its contract: the tries high byte first, filled up with 0.
+-- Assumes nothing.
 use mathlib.Core.Path.{refl}
 use Rattle.frames.specs.Write.{verdictFrame}
 use borrow.Author.Needs.{needs}
 use Rattle.frames.proofs.verdict_frame.Statement.{statement}
 use Rattle.frames.proofs.verdict_frame.Tie as tie
-use Rattle.frames.proofs.verdict_frame.Reads as reads
-use Rattle.frames.proofs.verdict_frame.Lts as lts
 
--- src/lib.rt:145:9
 cast-t4 : tie.Need-cast-t4
 cast-t4 c = search needs
 
--- src/lib.rt:146:9
 cast-t7 : tie.Need-cast-t7
 cast-t7 c = search needs
 
--- src/lib.rt:147:9
 cast-t10 : tie.Need-cast-t10
 cast-t10 c = search needs
 
--- src/lib.rt:148:9
 cast-t12 : tie.Need-cast-t12
 cast-t12 c = search needs
 
--- src/lib.rt:139:1
 returns : tie.Need-returns
 unfolding verdictFrame
 returns c = refl

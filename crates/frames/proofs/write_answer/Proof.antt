@@ -1,7 +1,7 @@
 -- `frames::write_answer` meets its contract: 05, the slots for verdict 0 and 07 stand one behind the other.
 -- Assumes nothing.
-use Prim.Native.Nat.{_+_, _*_, _≤_}
-use mathlib.Core.Path.{_≡_, refl, sym, ap, _∙_}
+use Prim.Native.Nat.{_*_, _≤_}
+use mathlib.Core.Path.{_≡_, sym, ap, _∙_}
 use mathlib.Core.Logic.{⊎-elim}
 use native.Mathlib.Omega.{arith}
 use borrow.Author.Needs.{needs}
@@ -12,7 +12,7 @@ use lib.Seq.{sets, length-sets}
 use Rattle.laws.specs.Sum.{gate}
 use Rattle.laws.specs.Lists.{nth}
 use Rattle.laws.proofs.SumLaws.{gate-eq, gate-ne}
-use Rattle.frames.specs.Write.{verdictFrame, lineOf, slotLines}
+use Rattle.frames.specs.Write.{verdictFrame, lineOf}
 use Rattle.frames.proofs.WriteLaws.{frame-fits, frame-next, can-is, shown-fits, not-written, verdict-line, answer-written}
 use Rattle.frames.proofs.write_answer.Statement.{statement}
 use Rattle.frames.proofs.write_answer.Tie as tie
@@ -81,8 +81,8 @@ returns-2 c =
     let f = first (c .before .before .before .before .before .before .before .before .before .before) in
     let s = c .before .before .before .before .before .before .put-slots in
     answer-written (a .out .now) (a .verdict) (a .tries) (a .slots) (a .m) (a .table .now) _ (q .if2 .shown) _ _ _ _ _ _
-        (can (q .before) .3) (within q .0) (sym (q .before .before .can-write .ensures) ∙ not-false _ (q .before .if1 .left)) (shown q)
-        (f .0) (f .1) (s .ensures .0) (s .ensures .1) (c .before .before .put-frame2 .ensures .0) (c .before .before .put-frame2 .ensures .1)
+    (can (q .before) .3) (within q .0) (sym (q .before .before .can-write .ensures) ∙ not-false _ (q .before .if1 .left)) (shown q)
+    (f .0) (f .1) (s .ensures .0) (s .ensures .1) (c .before .before .put-frame2 .ensures .0) (c .before .before .put-frame2 .ensures .1)
 
 pub write-answer-spec : {M : Type 1} → statement M
 write-answer-spec =
