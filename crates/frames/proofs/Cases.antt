@@ -12,7 +12,7 @@ use Rattle.tasks.specs.declared.Task.{Task}
 use Rattle.tasks.specs.Refusal.{within, unless}
 use Rattle.frames.specs.Frame.{sortOf, two, four}
 use Rattle.frames.specs.Lines.{isDigit, digitOf, pairs, bytesOf, before, lines}
-use Rattle.frames.specs.Read.{Read, refused, problem, mayFollow, rightNumber, inPlace, taskOf, taken, frameRefusal, lineRefusal, placeRefusal, readLines, readWithin, readProblem}
+use Rattle.frames.specs.Read.{Read, refused, problem, mayFollow, rightNumber, inPlace, taskOf, taken, lengthRefusal, frameRefusal, lineRefusal, placeRefusal, readLines, readWithin, readProblem}
 use Rattle.frames.specs.Write.{hexOf, digits, lineOf, verdictFrame, cellAt, slotFrame, slotLines, writeAnswer}
 
 -- the bytes of a text
@@ -22,7 +22,7 @@ bytes s = tab (len s) (λ i. code (charAt s i))
 
 -- what a text is read as
 reading : List ℕ → Read
-unfolding tab bytes within unless sortOf two four isDigit digitOf pairs bytesOf before lines mayFollow rightNumber inPlace taskOf taken frameRefusal lineRefusal placeRefusal readLines readWithin
+unfolding tab bytes within unless sortOf two four isDigit digitOf pairs bytesOf before lines mayFollow rightNumber inPlace taskOf taken lengthRefusal frameRefusal lineRefusal placeRefusal readLines readWithin
 reading text = readProblem text
 
 -- what is written: verdict, tries, slots, cores and table

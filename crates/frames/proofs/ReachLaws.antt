@@ -15,7 +15,7 @@ use Rattle.laws.specs.Lists.{nth, tab}
 use Rattle.tasks.specs.Refusal.{unless}
 use Rattle.frames.specs.Frame.{lengthOfKind, sortOf}
 use Rattle.frames.specs.Lines.{pairs, bytesOf, lines, lineAt, LineEnd}
-use Rattle.frames.specs.Read.{State, start, refused, problem, isKind, mayFollow, rightNumber, inPlace, taskOf, taken, frameRefusal, lineRefusal, placeRefusal, orRead, readLines, listOf, blankOf, heldBy, told, filled}
+use Rattle.frames.specs.Read.{State, start, refused, problem, isKind, mayFollow, rightNumber, inPlace, taskOf, taken, lengthRefusal, frameRefusal, lineRefusal, placeRefusal, orRead, readLines, listOf, blankOf, heldBy, told, filled}
 use Rattle.frames.specs.declared.Problem.{Problem}
 use Rattle.frames.proofs.FrameLaws.{length-most}
 use Rattle.frames.proofs.LineLaws.{line-cut, bytes-length}
@@ -35,7 +35,7 @@ unless-none false k next l e = absurd (omega arith)
 
 -- has a line feed, and at most 10 bytes
 pub line-passed : (text : List ℕ) (from to : ℕ) → to ≤ length text → lineRefusal (lineAt text from to) ≡ 0 → (to < length text) × (to ≤ from + 21)
-unfolding lineRefusal frameRefusal
+unfolding lineRefusal frameRefusal lengthRefusal
 line-passed text from to fits e =
     let a = unless-none _ 21 _ (omega arith) e in
     let b = unless-none (isKind (sortOf kind)) 22 _ (omega arith) (a .1) in

@@ -82,12 +82,14 @@ inProblem Known = true
 inProblem Misplaced = false
 inProblem Unknown = false
 
--- 22 unknown kind; 23 wrong length; 24 out of place, as a kind of an answer always is
+-- 23 wrong length
+unfoldable pub lengthRefusal : ℕ → ℕ → ℕ → ℕ
+lengthRefusal kind count after = unless (eqb count (lengthOfKind kind)) 23 after
+
+-- 22 unknown kind; 23; 24 out of place, as a kind of an answer always is
 unfoldable pub frameRefusal : ℕ → ℕ → ℕ
 frameRefusal kind count =
-    unless (isKind (sortOf kind)) 22
-    (unless (eqb count (lengthOfKind kind)) 23
-    (unless (inProblem (sortOf kind)) 24 0))
+    unless (isKind (sortOf kind)) 22 (lengthRefusal kind count (unless (inProblem (sortOf kind)) 24 0))
 
 -- 21 no line feed, not pairs of 0-9A-F, or empty; then its frame
 unfoldable pub lineRefusal : Line → ℕ

@@ -8,12 +8,29 @@ ghost use Rattle.laws.specs.Lists.{nth};
 ghost use Rattle.frames.specs.Frame.{lengthOfKind, sortOf};
 ghost use Rattle.frames.specs.Lines.{isDigit, digitOf, pairs, bytesOf, lines, LineEnd, lineAt};
 ghost use Rattle.tasks.specs.declared.Task.{Task};
-ghost use Rattle.frames.specs.Read.{State, start, mayFollow, rightNumber, inPlace, taskOf, taken, frameRefusal, lineRefusal, readLines, readProblem, listOf, blankOf, heldBy, told, filled};
+ghost use Rattle.frames.specs.Read.{State, start, mayFollow, rightNumber, inPlace, taskOf, taken, lengthRefusal, frameRefusal, lineRefusal, readLines, readProblem, listOf, blankOf, heldBy, told, filled};
 ghost use Rattle.frames.specs.Write.{hexOf, digits, lineOf, verdictFrame, cellAt, slotFrame, slotLines, canWrite, writeAnswer, Written};
 use tasks::MAX_CORES;
 use tasks::MAX_SLOTS;
 use tasks::MAX_TASKS;
 use tasks::TaskList;
+
+// The kinds of frames, and what stands for none before the first.
+const NO_FRAME: u8 = 0;
+
+const CORES: u8 = 1;
+
+const TASK: u8 = 2;
+
+const RATES: u8 = 3;
+
+const LIMIT: u8 = 4;
+
+const VERDICT: u8 = 5;
+
+const SLOT: u8 = 6;
+
+const END: u8 = 7;
 
 // Each kind of frame has its fixed length in bytes.
 const LENGTHS: [u8; 8] = [0, 2, 10, 6, 6, 6, 7, 1];
@@ -58,8 +75,8 @@ fn sort_of(kind: u8) -> Sort
     ensures { λ r. ⌜ r ≡ sortOf kind ⌝ }
 {
     match kind {
-        1..=4 | 7 => Sort::Known,
-        5..=6 => Sort::Misplaced,
+        CORES..=LIMIT | END => Sort::Known,
+        VERDICT..=SLOT => Sort::Misplaced,
         _ => Sort::Unknown,
     }
 }
@@ -119,13 +136,13 @@ fn may_follow(last: u8, kind: u8) -> bool
     ensures { λ r. ⌜ r ≡ mayFollow last kind ⌝ }
 {
     match last {
-        0 => kind == 1,
-        1 | 3 => match kind {
-            2 | 4 | 7 => true,
+        NO_FRAME => kind == CORES,
+        CORES | RATES => match kind {
+            TASK | LIMIT | END => true,
             _ => false,
         },
-        2 => kind == 3,
-        4 => kind == 7,
+        TASK => kind == RATES,
+        LIMIT => kind == END,
         _ => false,
     }
 }
@@ -159,7 +176,7 @@ fn verdict_frame(verdict: u8, tries: u32) -> [u8; 10]
     ensures { λ r. ⌜ r ≡ verdictFrame verdict tries ++ (0 ∷ 0 ∷ 0 ∷ 0 ∷ []) ⌝ }
 {
     [
-        5,
+        VERDICT,
         verdict,
         (tries / 16777216) as u8,
         (tries / 65536 % 256) as u8,
@@ -190,7 +207,7 @@ fn slot_frame(m: u8, table: &[u8], t: u16) -> [u8; 10]
     ensures { λ r. ⌜ r ≡ slotFrame m (now (table .entry)) t ++ (0 ∷ 0 ∷ 0 ∷ []) ⌝ }
 {
     [
-        6,
+        SLOT,
         (t / 256) as u8,
         (t % 256) as u8,
         cell_at(m, table, t, 0),
@@ -250,7 +267,7 @@ pub fn write_answer(
     let shown = if verdict == 0 { slots } else { 0 };
     let first = put_frame(out, 0, verdict_frame(verdict, tries));
     let last = put_slots(out, first, shown, m, table);
-    put_frame(out, last, [7, 0, 0, 0, 0, 0, 0, 0, 0, 0])
+    put_frame(out, last, [END, 0, 0, 0, 0, 0, 0, 0, 0, 0])
 }
 
 // What a text holds: a problem, or the number that refuses the file.
@@ -298,26 +315,26 @@ fn are_pairs(text: &[u8], from: usize, to: usize) -> bool
     true
 }
 
+// 23 where a frame of so many bytes has another length than its kind, else what comes after.
+fn length_refusal(kind: u8, count: usize, after: u8) -> u8
+    requires { ⌜ kind < 8 ⌝ }
+    ensures { λ r. ⌜ r ≡ lengthRefusal kind count after ⌝ }
+{
+    if count == length_of(kind) {
+        after
+    } else {
+        WRONG_LENGTH
+    }
+}
+
 // Refusals 22 and 23 of a frame of so many bytes, and 24 for a kind of an answer; 0 if there is none.
 fn frame_refusal(kind: u8, count: usize) -> u8
     ensures { λ r. ⌜ r ≡ frameRefusal kind count ⌝ }
 {
     match sort_of(kind) {
         Sort::Unknown => UNKNOWN_KIND,
-        Sort::Misplaced => {
-            if count == length_of(kind) {
-                OUT_OF_PLACE
-            } else {
-                WRONG_LENGTH
-            }
-        }
-        Sort::Known => {
-            if count == length_of(kind) {
-                0
-            } else {
-                WRONG_LENGTH
-            }
-        }
+        Sort::Misplaced => length_refusal(kind, count, OUT_OF_PLACE),
+        Sort::Known => length_refusal(kind, count, 0),
     }
 }
 
@@ -359,7 +376,7 @@ fn right_number(n: u8, kind: u8, number: u8) -> bool
     ensures { λ r. ⌜ r ≡ rightNumber n kind number ⌝ }
 {
     match kind {
-        2 | 3 => {
+        TASK | RATES => {
             if MAX_TASKS <= n {
                 return false;
             }
@@ -405,15 +422,15 @@ fn take_frame(mut p: Problem, last: [u8; 10], frame: [u8; 10]) -> Problem
 {
     let kind = frame[0];
     match kind {
-        1 => {
+        CORES => {
             p.m = frame[1];
         }
-        3 => {
+        RATES => {
             let list = p.list;
             let more = add_task(list, last, frame);
             p.list = more;
         }
-        4 => {
+        LIMIT => {
             p.engine = frame[1];
             p.limit = four_bytes(frame[2], frame[3], frame[4], frame[5]);
         }
@@ -463,7 +480,7 @@ fn read_lines(text: &[u8]) -> Problem
         last = frame;
         at = to + 1;
     }
-    if last[0] != 7 {
+    if last[0] != END {
         return blank(OUT_OF_PLACE);
     }
     p

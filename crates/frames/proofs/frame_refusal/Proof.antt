@@ -2,9 +2,8 @@
 -- Assumes nothing.
 use mathlib.Core.Path.{_≡_, sym, ap, _∙_}
 use borrow.Author.Needs.{needs}
-use borrow.Author.Tests.{eq-eqb, ne-eqb}
 use Rattle.tasks.specs.Refusal.{unless}
-use Rattle.frames.specs.Frame.{lengthOfKind, sortOf}
+use Rattle.frames.specs.Frame.{sortOf}
 use Rattle.frames.specs.Read.{isKind, frameRefusal}
 use Rattle.frames.specs.declared.Sort.the-variants.{Known, Misplaced, Unknown}
 use Rattle.frames.proofs.ReadLaws.{kind-low}
@@ -30,14 +29,14 @@ enum-told c = search needs
 enum-told-2 : tie.Need-enum-told-2
 enum-told-2 c = search needs
 
-length-of-requires : tie.Need-length-of-requires
-length-of-requires c κs = kind-low _ (ap isKind (misplaced c))
+length-refusal-requires : tie.Need-length-refusal-requires
+length-refusal-requires c κs = kind-low _ (ap isKind (misplaced c))
 
 enum-told-3 : tie.Need-enum-told-3
 enum-told-3 c = search needs
 
-length-of-requires-2 : tie.Need-length-of-requires-2
-length-of-requires-2 c κs = kind-low _ (ap isKind (known c))
+length-refusal-requires-2 : tie.Need-length-refusal-requires-2
+length-refusal-requires-2 c κs = kind-low _ (ap isKind (known c))
 
 returns : tie.Need-returns
 unfolding frameRefusal unless
@@ -45,27 +44,11 @@ returns c = rw (unknown c)
 
 returns-2 : tie.Need-returns-2
 unfolding frameRefusal unless
-returns-2 c =
-    let a = c .before .before .before .before .before .args in
-    rw (misplaced (c .before .before), eq-eqb (a .count) (lengthOfKind (a .kind)) (c .if1 .taken ∙ c .before .length-of .ensures .0))
+returns-2 c = rw (misplaced (c .before)) (c .length-refusal .ensures)
 
 returns-3 : tie.Need-returns-3
 unfolding frameRefusal unless
-returns-3 c =
-    let a = c .before .before .before .before .before .args in
-    rw (misplaced (c .before .before), ne-eqb (a .count) (lengthOfKind (a .kind)) (λ e. c .if1 .left (e ∙ sym (c .before .length-of .ensures .0))))
-
-returns-4 : tie.Need-returns-4
-unfolding frameRefusal unless
-returns-4 c =
-    let a = c .before .before .before .before .before .args in
-    rw (known (c .before .before), eq-eqb (a .count) (lengthOfKind (a .kind)) (c .if2 .taken ∙ c .before .length-of2 .ensures .0))
-
-returns-5 : tie.Need-returns-5
-unfolding frameRefusal unless
-returns-5 c =
-    let a = c .before .before .before .before .before .args in
-    rw (known (c .before .before), ne-eqb (a .count) (lengthOfKind (a .kind)) (λ e. c .if2 .left (e ∙ sym (c .before .length-of2 .ensures .0))))
+returns-3 c = rw (known (c .before)) (c .length-refusal2 .ensures)
 
 pub frame-refusal-spec : {M : Type 1} → statement M
 frame-refusal-spec =
@@ -74,11 +57,9 @@ frame-refusal-spec =
     sort-of-requires
     enum-told
     enum-told-2
-    length-of-requires
+    length-refusal-requires
     enum-told-3
-    length-of-requires-2
+    length-refusal-requires-2
     returns
     returns-2
-    returns-3
-    returns-4
-    returns-5)
+    returns-3)
