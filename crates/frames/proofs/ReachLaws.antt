@@ -15,7 +15,7 @@ use Rattle.laws.specs.Lists.{nth, tab}
 use Rattle.tasks.specs.Refusal.{unless}
 use Rattle.frames.specs.Frame.{lengthOfKind, sortOf}
 use Rattle.frames.specs.Lines.{pairs, bytesOf, lines, lineAt, LineEnd}
-use Rattle.frames.specs.Read.{State, start, refused, problem, isKind, mayFollow, rightNumber, inPlace, taskOf, taken, lengthRefusal, frameRefusal, lineRefusal, placeRefusal, orRead, readLines, listOf, blankOf, heldBy, told, filled}
+use Rattle.frames.specs.Read.{State, said, start, refused, isKind, mayFollow, rightNumber, inPlace, taskOf, taken, lengthRefusal, frameRefusal, lineRefusal, placeRefusal, orRead, readLines, listOf, blankOf, heldBy, told, filled}
 use Rattle.frames.specs.declared.Problem.{Problem}
 use Rattle.frames.proofs.FrameLaws.{length-most}
 use Rattle.frames.proofs.LineLaws.{line-cut, bytes-length}
@@ -72,7 +72,7 @@ pub record Reached (text : List ℕ) (p : Problem) (last : List ℕ) (at : ℕ) 
 
 -- before the first line
 pub reached-start : (text : List ℕ) (p : Problem) (zeros : List ℕ) → p ≡ blankOf 0 → zeros ≡ filled [] → Reached text p zeros 0
-unfolding blankOf heldBy
+unfolding blankOf told
 reached-start text p zeros e z = record { state = start; held = e; frame = z; few = omega arith; rest = refl }
 
 -- at a line
@@ -95,7 +95,7 @@ module _ (text : List ℕ) (p : Problem) (last : List ℕ) (at to : ℕ) (R : Re
 
   module _ (frame : List ℕ) (passed : lineRefusal (lineAt text at to) ≡ 0) (g : frame ≡ filled lineBytes) where
     place-is : inPlace (nth last 0) (p .list .n) frame ≡ inPlace (nth (R .state .last) 0) (length (R .state .tasks)) lineBytes
-    unfolding inPlace filled tab heldBy listOf
+    unfolding inPlace filled tab listOf told
     place-is = rw (R .frame, R .held, g)
 
     -- refusal 24
@@ -126,7 +126,7 @@ module _ (text : List ℕ) (p : Problem) (last : List ℕ) (at to : ℕ) (R : Re
 -- at the text's end
 module _ (text : List ℕ) (p : Problem) (last : List ℕ) (at : ℕ) (R : Reached text p last at) (l : length text ≤ at) where
   no-line : readLines start (lines text)
-      ≡ orRead (unless (eqb (nth last 0) 7) 24 0) (problem (R .state .m) (R .state .tasks) (R .state .engine) (R .state .limit))
+      ≡ orRead (unless (eqb (nth last 0) 7) 24 0) (said (R .state))
   unfolding readLines lines filled tab
   no-line = R .rest ∙ ap (λ s. readLines (R .state) (lines s)) (drop-of-length-le text l) ∙ rw (R .frame)
 
@@ -139,7 +139,7 @@ module _ (text : List ℕ) (p : Problem) (last : List ℕ) (at : ℕ) (R : Reach
 
   -- else the problem
   pub read-all : nth last 0 ≡ 7 → p ≡ told (readLines start (lines text))
-  unfolding told unless heldBy
+  unfolding told unless
   read-all k =
-      let read : readLines start (lines text) ≡ problem (R .state .m) (R .state .tasks) (R .state .engine) (R .state .limit) = no-line ∙ rw (eq-eqb (nth last 0) 7 k) in
+      let read : readLines start (lines text) ≡ said (R .state) = no-line ∙ rw (eq-eqb (nth last 0) 7 k) in
       R .held ∙ sym (ap told read)
