@@ -3,6 +3,7 @@ mod FrameLaws
 mod LineLaws
 mod ListLaws
 mod ReadLaws
+pub mod ProblemLaws
 mod ReachLaws
 mod TaskLaws
 mod WriteLaws

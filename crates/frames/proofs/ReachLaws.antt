@@ -28,7 +28,7 @@ both-pass false b e = absurd (false≢true e)
 
 -- ---- a line that is not refused
 -- a refusal that is none
-unless-none : (b : Bool) (k next : ℕ) → 0 < k → unless b k next ≡ 0 → (b ≡ true) × (next ≡ 0)
+pub unless-none : (b : Bool) (k next : ℕ) → 0 < k → unless b k next ≡ 0 → (b ≡ true) × (next ≡ 0)
 unfolding unless
 unless-none true k next l e = (refl, e)
 unless-none false k next l e = absurd (omega arith)
