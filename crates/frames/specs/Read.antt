@@ -30,6 +30,10 @@ pub record State : Type 0 where
   pub engine : ℕ
   pub limit : ℕ
 
+-- the problem that they make
+abbrev pub said : State → Read
+said s = problem (s .m) (s .tasks) (s .engine) (s .limit)
+
 -- before the first frame; 04 left out: engine 0, limit 1000000
 abbrev pub start : State
 start = record { last = []; m = 0; tasks = []; engine = 0; limit = 1000000 }
@@ -108,7 +112,7 @@ orRead (suc k) r = refused (suc k)
 
 -- line by line 21 to 24; 24 too where there is no end
 unfoldable pub readLines : State → List Line → Read
-readLines s [] = orRead (unless (eqb (nth (s .last) 0) 7) 24 0) (problem (s .m) (s .tasks) (s .engine) (s .limit))
+readLines s [] = orRead (unless (eqb (nth (s .last) 0) 7) 24 0) (said s)
 readLines s (l ∷ ls) =
     orRead (lineRefusal l) (orRead (placeRefusal s (bytesOf (l .text))) (readLines (taken s (bytesOf (l .text))) ls))
 
@@ -133,16 +137,16 @@ listOf ts = record {
 
 -- what holds before the first frame, beside a refusal, 0 for none
 unfoldable pub blankOf : ℕ → Problem
-blankOf k = record { refusal = k; m = 0; list = listOf []; engine = 0; limit = 1000000 }
-
--- what the frames so far have said
-unfoldable pub heldBy : State → Problem
-heldBy s = record { refusal = 0; m = s .m; list = listOf (s .tasks); engine = s .engine; limit = s .limit }
+blankOf k = record { refusal = k; m = start .m; list = listOf (start .tasks); engine = start .engine; limit = start .limit }
 
 -- what the code answers of a text
 unfoldable pub told : Read → Problem
 told (refused k) = blankOf k
 told (problem m ts engine limit) = record { refusal = 0; m = m; list = listOf ts; engine = engine; limit = limit }
+
+-- what it holds of the frames so far
+abbrev pub heldBy : State → Problem
+heldBy s = told (said s)
 
 -- a frame's bytes, filled up with 0
 unfoldable pub filled : List ℕ → List ℕ
