@@ -3,6 +3,7 @@
 use Prim.Native.Nat.{ℕ, zero, suc, _+_, _*_, _/_, _%_, _≤_, _<_}
 use native.Mathlib.Decide.{ℕ-discrete}
 use native.Mathlib.Omega.{arith}
+use mathlib.Core.Logic.{_≢_}
 use mathlib.Core.Path.{_≡_, refl, ap, subst, _∙_}
 use mathlib.Core.Bool.{true}
 use mathlib.Core.List.{List, [], _∷_, _++_}
@@ -92,9 +93,9 @@ held-more ts τ h l four = record { few = omega (arith, length-append ts (τ ∷
       | no x ↦ ap (λ t. length (t .rates .0)) (more-other noTask τ ts k x) ∙ h .four-rates k (omega (arith, length-append ts (τ ∷ [])))
     ]
 
--- a reading that is refused, or holds its tasks
+-- a reading that is refused by a number, or holds its tasks
 data Fine : Read → Type 0 where
-  no-problem : {k : ℕ} → Fine (refused k)
+  no-problem : {k : ℕ} → Fine (refused (suc k))
   a-problem : {m engine limit : ℕ} {ts : List Task} → Held ts → Fine (problem m ts engine limit)
 
 or-fine : (k : ℕ) (r : Read) → (k ≡ 0 → Fine r) → Fine (orRead k r)
@@ -116,13 +117,21 @@ lines-fine (l ∷ ls) s h =
       | no x ↦ rw (ne-eqb (nth f 0) 3 x) h
     ]
 
--- what a text is read as
-pub read-held : (text : List ℕ) (m engine limit : ℕ) (ts : List Task) → readProblem text ≡ problem m ts engine limit → Held ts
+-- every text is read so
+read-fine : (text : List ℕ) → Fine (readProblem text)
 unfolding readWithin
-read-held text m engine limit ts e = held (subst Fine e (or-fine (unless (leb (length text) 1024) 20 0) _ (λ q. lines-fine (lines text) start none)))
-  where
-    none : Held []
-    none = record { few = omega arith; four-rates = λ k l. absurd (omega arith) }
+read-fine text = or-fine (unless (leb (length text) 1024) 20 0) (readLines start (lines text)) (λ q. lines-fine (lines text) start (record { few = omega arith; four-rates = λ k l. absurd (omega arith) }))
 
+-- a problem that is read holds its tasks
+pub read-held : (text : List ℕ) (m engine limit : ℕ) (ts : List Task) → readProblem text ≡ problem m ts engine limit → Held ts
+read-held text m engine limit ts e = held (subst Fine e (read-fine text))
+  where
     held : {m engine limit : ℕ} {ts : List Task} → Fine (problem m ts engine limit) → Held ts
     held (a-problem h) = h
+
+-- a file refusal is not 0
+pub read-refused : (text : List ℕ) (k : ℕ) → readProblem text ≡ refused k → k ≢ 0
+read-refused text k e = some (subst Fine e (read-fine text))
+  where
+    some : {k : ℕ} → Fine (refused k) → k ≢ 0
+    some no-problem z = omega arith

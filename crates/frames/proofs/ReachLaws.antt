@@ -15,11 +15,7 @@ use Rattle.laws.specs.Lists.{nth, tab}
 use Rattle.tasks.specs.Refusal.{unless}
 use Rattle.frames.specs.Frame.{lengthOfKind, sortOf}
 use Rattle.frames.specs.Lines.{pairs, bytesOf, lines, lineAt, LineEnd}
-<<<<<<< HEAD
-use Rattle.frames.specs.Read.{State, start, refused, problem, isKind, mayFollow, rightNumber, inPlace, taskOf, taken, lengthRefusal, frameRefusal, lineRefusal, placeRefusal, orRead, readLines, listOf, blankOf, heldBy, told, filled}
-=======
 use Rattle.frames.specs.Read.{State, said, start, refused, isKind, mayFollow, rightNumber, inPlace, taskOf, taken, lengthRefusal, frameRefusal, lineRefusal, placeRefusal, orRead, readLines, listOf, blankOf, heldBy, told, filled}
->>>>>>> 088aba7f831edb96156ab5cec323c0e268ee70de
 use Rattle.frames.specs.declared.Problem.{Problem}
 use Rattle.frames.proofs.FrameLaws.{length-most}
 use Rattle.frames.proofs.LineLaws.{line-cut, bytes-length}
@@ -32,11 +28,7 @@ both-pass false b e = absurd (false≢true e)
 
 -- ---- a line that is not refused
 -- a refusal that is none
-<<<<<<< HEAD
-unless-none : (b : Bool) (k next : ℕ) → 0 < k → unless b k next ≡ 0 → (b ≡ true) × (next ≡ 0)
-=======
 pub unless-none : (b : Bool) (k next : ℕ) → 0 < k → unless b k next ≡ 0 → (b ≡ true) × (next ≡ 0)
->>>>>>> 088aba7f831edb96156ab5cec323c0e268ee70de
 unfolding unless
 unless-none true k next l e = (refl, e)
 unless-none false k next l e = absurd (omega arith)
@@ -80,11 +72,7 @@ pub record Reached (text : List ℕ) (p : Problem) (last : List ℕ) (at : ℕ) 
 
 -- before the first line
 pub reached-start : (text : List ℕ) (p : Problem) (zeros : List ℕ) → p ≡ blankOf 0 → zeros ≡ filled [] → Reached text p zeros 0
-<<<<<<< HEAD
-unfolding blankOf heldBy
-=======
 unfolding blankOf told
->>>>>>> 088aba7f831edb96156ab5cec323c0e268ee70de
 reached-start text p zeros e z = record { state = start; held = e; frame = z; few = omega arith; rest = refl }
 
 -- at a line
@@ -107,11 +95,7 @@ module _ (text : List ℕ) (p : Problem) (last : List ℕ) (at to : ℕ) (R : Re
 
   module _ (frame : List ℕ) (passed : lineRefusal (lineAt text at to) ≡ 0) (g : frame ≡ filled lineBytes) where
     place-is : inPlace (nth last 0) (p .list .n) frame ≡ inPlace (nth (R .state .last) 0) (length (R .state .tasks)) lineBytes
-<<<<<<< HEAD
-    unfolding inPlace filled tab heldBy listOf
-=======
     unfolding inPlace filled tab listOf told
->>>>>>> 088aba7f831edb96156ab5cec323c0e268ee70de
     place-is = rw (R .frame, R .held, g)
 
     -- refusal 24
@@ -142,11 +126,7 @@ module _ (text : List ℕ) (p : Problem) (last : List ℕ) (at to : ℕ) (R : Re
 -- at the text's end
 module _ (text : List ℕ) (p : Problem) (last : List ℕ) (at : ℕ) (R : Reached text p last at) (l : length text ≤ at) where
   no-line : readLines start (lines text)
-<<<<<<< HEAD
-      ≡ orRead (unless (eqb (nth last 0) 7) 24 0) (problem (R .state .m) (R .state .tasks) (R .state .engine) (R .state .limit))
-=======
       ≡ orRead (unless (eqb (nth last 0) 7) 24 0) (said (R .state))
->>>>>>> 088aba7f831edb96156ab5cec323c0e268ee70de
   unfolding readLines lines filled tab
   no-line = R .rest ∙ ap (λ s. readLines (R .state) (lines s)) (drop-of-length-le text l) ∙ rw (R .frame)
 
@@ -159,13 +139,7 @@ module _ (text : List ℕ) (p : Problem) (last : List ℕ) (at : ℕ) (R : Reach
 
   -- else the problem
   pub read-all : nth last 0 ≡ 7 → p ≡ told (readLines start (lines text))
-<<<<<<< HEAD
-  unfolding told unless heldBy
-  read-all k =
-      let read : readLines start (lines text) ≡ problem (R .state .m) (R .state .tasks) (R .state .engine) (R .state .limit) = no-line ∙ rw (eq-eqb (nth last 0) 7 k) in
-=======
   unfolding told unless
   read-all k =
       let read : readLines start (lines text) ≡ said (R .state) = no-line ∙ rw (eq-eqb (nth last 0) 7 k) in
->>>>>>> 088aba7f831edb96156ab5cec323c0e268ee70de
       R .held ∙ sym (ap told read)

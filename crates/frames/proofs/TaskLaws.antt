@@ -17,11 +17,7 @@ use Rattle.tasks.specs.declared.Task.{Task}
 use Rattle.tasks.specs.declared.TaskList.{TaskList}
 use Rattle.tasks.specs.Task.{noTask}
 use Rattle.frames.specs.Frame.{two, four}
-<<<<<<< HEAD
-use Rattle.frames.specs.Read.{State, taskOf, taken, listOf, heldBy, filled}
-=======
 use Rattle.frames.specs.Read.{State, taskOf, taken, listOf, heldBy, told, filled}
->>>>>>> 088aba7f831edb96156ab5cec323c0e268ee70de
 use Rattle.frames.specs.declared.Problem.{Problem}
 use Rattle.frames.proofs.ListLaws.{sets-same, sets-other, tab-set, more-last, more-other}
 
@@ -107,36 +103,20 @@ task-added l f g o w d t few eo ew ed et ts e =
 module _ (s : State) (p : Problem) (frame f : List ℕ) (e : p ≡ heldBy s) (g : frame ≡ filled f) where
   pub cores-said : nth frame 0 ≡ 1
       → _≡_ {A = Problem} record { refusal = p .refusal; m = nth frame 1; list = p .list; engine = p .engine; limit = p .limit } (heldBy (taken s f))
-<<<<<<< HEAD
-  unfolding heldBy taken filled tab
-=======
   unfolding taken filled tab told
->>>>>>> 088aba7f831edb96156ab5cec323c0e268ee70de
   cores-said k = let kind : nth f 0 ≡ 1 = rw g at k in rw (e, g, kind)
 
   pub task-said : (last : List ℕ) (list : TaskList) → nth frame 0 ≡ 3 → last ≡ filled (s .last) → list ≡ listOf (s .tasks ++ (taskOf last frame ∷ []))
       → _≡_ {A = Problem} record { refusal = p .refusal; m = p .m; list = list; engine = p .engine; limit = p .limit } (heldBy (taken s f))
-<<<<<<< HEAD
-  unfolding heldBy taken filled tab taskOf two
-=======
   unfolding taken filled tab taskOf two told
->>>>>>> 088aba7f831edb96156ab5cec323c0e268ee70de
   task-said last list k q h = let kind : nth f 0 ≡ 3 = rw g at k in rw (e, h, q, g, kind)
 
   pub limit-said : (limit : ℕ) → nth frame 0 ≡ 4 → limit ≡ (nth frame 2 * 256 + nth frame 3) * 65536 + (nth frame 4 * 256 + nth frame 5)
       → _≡_ {A = Problem} record { refusal = p .refusal; m = p .m; list = p .list; engine = nth frame 1; limit = limit } (heldBy (taken s f))
-<<<<<<< HEAD
-  unfolding heldBy taken filled tab four two
-  limit-said limit k h = let kind : nth f 0 ≡ 4 = rw g at k in rw (e, h, g, kind)
-
-  pub nothing-said : nth frame 0 ≢ 1 → nth frame 0 ≢ 3 → nth frame 0 ≢ 4 → p ≡ heldBy (taken s f)
-  unfolding heldBy taken filled tab
-=======
   unfolding taken filled tab four two told
   limit-said limit k h = let kind : nth f 0 ≡ 4 = rw g at k in rw (e, h, g, kind)
 
   pub nothing-said : nth frame 0 ≢ 1 → nth frame 0 ≢ 3 → nth frame 0 ≢ 4 → p ≡ heldBy (taken s f)
   unfolding taken filled tab told
->>>>>>> 088aba7f831edb96156ab5cec323c0e268ee70de
   nothing-said a b c =
       e ∙ rw (ne-eqb (nth f 0) 1 (rw g at a), ne-eqb (nth f 0) 3 (rw g at b), ne-eqb (nth f 0) 4 (rw g at c))

@@ -1,10 +1,7 @@
 -- `frames::line_refusal` meets its contract: 21 for a line that is not one, else what its frame gives.
 -- Assumes nothing.
 use mathlib.Core.Path.{sym, _∙_}
-<<<<<<< HEAD
-=======
 use native.Mathlib.Omega.{arith}
->>>>>>> 088aba7f831edb96156ab5cec323c0e268ee70de
 use borrow.Author.Needs.{needs}
 use borrow.Author.Tests.{not-true, not-false}
 use Rattle.frames.proofs.ReadLaws.{not-ended, too-short, not-pairs, whole-line}
@@ -14,11 +11,7 @@ use Rattle.frames.proofs.line_refusal.Tie as tie
 returns : tie.Need-returns
 returns c =
     let a = c .before .before in
-<<<<<<< HEAD
-    sym (not-ended (a .args .text .now) (a .args .from) (a .args .to) (a .pre .1) (c .if1 .taken))
-=======
     sym (not-ended (a .args .text .now) (a .args .from) (a .args .to) (a .pre .1) (omega arith))
->>>>>>> 088aba7f831edb96156ab5cec323c0e268ee70de
 
 sub-if2 : tie.Need-sub-if2
 sub-if2 c = search needs
@@ -58,11 +51,7 @@ returns-4 : tie.Need-returns-4
 returns-4 c =
     let a = c .before .before .before .before .before .before .before .before .before in
     c .frame-refusal .ensures
-<<<<<<< HEAD
-    ∙ whole-line (a .args .text .now) (a .args .from) (a .args .to) (a .pre .1) _ (c .before .before .before .before .before .before .before .if1 .left) (c .before .before .before .before .before .before .if2 .left)
-=======
     ∙ whole-line (a .args .text .now) (a .args .from) (a .args .to) (a .pre .1) _ (λ e. omega arith) (c .before .before .before .before .before .before .if2 .left)
->>>>>>> 088aba7f831edb96156ab5cec323c0e268ee70de
     (sym (c .before .before .before .before .before .are-pairs .ensures) ∙ not-false _ (c .before .before .before .before .if3 .left)) (c .before .pair .ensures)
 
 pub line-refusal-spec : {M : Type 1} → statement M

@@ -2,10 +2,7 @@
 -- Assumes nothing.
 use Prim.Native.Nat.{_-_}
 use mathlib.Core.Path.{refl, sym, _∙_}
-<<<<<<< HEAD
-=======
 use native.Mathlib.Omega.{arith}
->>>>>>> 088aba7f831edb96156ab5cec323c0e268ee70de
 use borrow.Author.Needs.{needs}
 use borrow.Author.Tests.{not-true, not-false}
 use lib.ListN.{length}
@@ -89,17 +86,10 @@ blank-requires-4 : tie.Need-blank-requires-4 Inv-loop μ-loop
 blank-requires-4 c κs = search needs
 
 returns-3 : tie.Need-returns-3 Inv-loop μ-loop
-<<<<<<< HEAD
-returns-3 c = c .blank4 .ensures ∙ no-end _ _ _ _ (c .before .before .before .loop .inv) (c .before .before .loop-test .left) (c .before .if3 .taken)
-
-returns-4 : tie.Need-returns-4 Inv-loop μ-loop
-returns-4 c = read-all _ _ _ _ (c .before .before .loop .inv) (c .before .loop-test .left) (c .if3 .left)
-=======
 returns-3 c = c .blank4 .ensures ∙ no-end _ _ _ _ (c .before .before .before .loop .inv) (c .before .before .loop-test .left) (λ e. omega (arith, e, c .before .if3 .taken))
 
 returns-4 : tie.Need-returns-4 Inv-loop μ-loop
 returns-4 c = read-all _ _ _ _ (c .before .before .loop .inv) (c .before .loop-test .left) (omega (arith, c .if3 .left))
->>>>>>> 088aba7f831edb96156ab5cec323c0e268ee70de
 
 pub read-lines-spec : {M : Type 1} → statement M
 read-lines-spec =

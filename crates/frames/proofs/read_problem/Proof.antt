@@ -1,10 +1,7 @@
 -- `frames::read_problem` meets its contract: 20, or what the lines give.
 -- Assumes nothing.
 use mathlib.Core.Path.{_∙_}
-<<<<<<< HEAD
-=======
 use native.Mathlib.Omega.{arith}
->>>>>>> 088aba7f831edb96156ab5cec323c0e268ee70de
 use borrow.Author.Needs.{needs}
 use borrow.Author.Tests.{le-leb, lt-leb}
 use lib.ListN.{length}
@@ -18,22 +15,14 @@ blank-requires c κs = search needs
 
 returns : tie.Need-returns
 unfolding readWithin told unless
-<<<<<<< HEAD
-returns c = c .blank .ensures ∙ rw (lt-leb (length (c .before .before .before .args .text .now)) 1024 (c .before .if1 .taken))
-=======
 returns c = c .blank .ensures ∙ rw (lt-leb (length (c .before .before .before .args .text .now)) 1024 (omega arith))
->>>>>>> 088aba7f831edb96156ab5cec323c0e268ee70de
 
 read-lines-requires : tie.Need-read-lines-requires
 read-lines-requires c κs = search needs
 
 returns-2 : tie.Need-returns-2
 unfolding readWithin unless
-<<<<<<< HEAD
-returns-2 c = c .read-lines .ensures ∙ rw (le-leb (length (c .before .before .before .args .text .now)) 1024 (c .before .if1 .left))
-=======
 returns-2 c = c .read-lines .ensures ∙ rw (le-leb (length (c .before .before .before .args .text .now)) 1024 (omega arith))
->>>>>>> 088aba7f831edb96156ab5cec323c0e268ee70de
 
 pub read-problem-spec : {M : Type 1} → statement M
 read-problem-spec = tie.close (tie.spec blank-requires returns read-lines-requires returns-2)

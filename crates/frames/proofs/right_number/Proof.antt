@@ -10,11 +10,7 @@ use Rattle.frames.proofs.right_number.Tie as tie
 returns : tie.Need-returns
 returns c =
     let a = c .before .before .before .args in
-<<<<<<< HEAD
-    sym (number-over (a .n) (a .kind) (a .number) (omega arith) (omega arith) (c .if3 .taken))
-=======
     sym (number-over (a .n) (a .kind) (a .number) (omega arith) (omega arith) (omega arith))
->>>>>>> 088aba7f831edb96156ab5cec323c0e268ee70de
 
 add-result : tie.Need-add-result
 add-result c = search needs
@@ -22,11 +18,7 @@ add-result c = search needs
 returns-2 : tie.Need-returns-2
 returns-2 c =
     let a = c .before .before .before .args in
-<<<<<<< HEAD
-    sym (number-next (a .n) (a .kind) (a .number) (omega arith) (omega arith) (c .if3 .left))
-=======
     sym (number-next (a .n) (a .kind) (a .number) (omega arith) (omega arith) (omega arith))
->>>>>>> 088aba7f831edb96156ab5cec323c0e268ee70de
 
 returns-3 : tie.Need-returns-3
 returns-3 c =

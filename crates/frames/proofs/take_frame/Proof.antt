@@ -2,11 +2,7 @@
 -- Assumes nothing.
 use mathlib.Core.Path.{ap}
 use borrow.Author.Needs.{needs}
-<<<<<<< HEAD
-use Rattle.frames.specs.Read.{heldBy}
-=======
 use Rattle.frames.specs.Read.{told}
->>>>>>> 088aba7f831edb96156ab5cec323c0e268ee70de
 use Rattle.frames.proofs.TaskLaws.{cores-said, task-said, limit-said, nothing-said}
 use Rattle.frames.proofs.take_frame.Statement.{statement}
 use Rattle.frames.proofs.take_frame.Tie as tie
@@ -42,11 +38,7 @@ returns : tie.Need-returns
 returns c = λ s e q f g. cores-said s _ _ f e g (c .match .keys1)
 
 returns-2 : tie.Need-returns-2
-<<<<<<< HEAD
-unfolding heldBy
-=======
 unfolding told
->>>>>>> 088aba7f831edb96156ab5cec323c0e268ee70de
 returns-2 c = λ s e q f g. task-said s _ _ f e g _ _ (c .before .before .match .keys2) q (c .add-task .ensures (s .tasks) (ap (λ p. p .list) e))
 
 returns-3 : tie.Need-returns-3
