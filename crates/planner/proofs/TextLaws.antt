@@ -115,10 +115,10 @@ pub written-as : {can can′ : Bool} {text text′ out out′ : List ℕ} {r : �
 written-as {out = out} {out′ = out′} {r = r} ec et w = subst₂ (λ c x. Written c x out r out′) ec et w
 
 -- what was written lies within the buffer
-pub within-out : {can : Bool} {text out out′ : List ℕ} {r : ℕ} → Written can text out r out′ → length out′ ≡ length out → r ≤ length out
+pub within-out : {can : Bool} {text out out′ : List ℕ} {r : ℕ} → Written can text out r out′ → length out′ ≡ length out → r ≤ length out′
 unfolding over gate
 within-out {can} {text} {out} {out′} {r} w e = go can (w .count) (w .holds)
   where
-    go : (c : Bool) → r ≡ gate c (length text) → out′ ≡ cond c (over text out) out → r ≤ length out
+    go : (c : Bool) → r ≡ gate c (length text) → out′ ≡ cond c (over text out) out → r ≤ length out′
     go true h k = omega (arith, h, e, ap length k ∙ length-append text (drop (length text) out))
     go false h k = omega arith

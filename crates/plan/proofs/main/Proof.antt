@@ -1,6 +1,7 @@
 -- `plan::main` meets its contract: what was written lies within the buffer.
 -- Assumes nothing.
-use native.Mathlib.Omega.{arith}
+use mathlib.Core.Path.{sym}
+use lib.Seq.{length-take-le}
 use Rattle.planner.proofs.TextLaws.{within-out}
 use borrow.Author.Needs.{needs}
 use Rattle.plan.proofs.main.Statement.{statement}
@@ -25,10 +26,11 @@ plan-text-requires : tie.Need-plan-text-requires
 plan-text-requires c κs = search needs
 
 array-share-prefix-out : tie.Need-array-share-prefix-out
-array-share-prefix-out c = omega (arith, within-out (c .plan-text .ensures) (c .plan-text .kept .1 .0))
+array-share-prefix-out c = within-out (c .before .plan-text .ensures) (c .before .plan-text .kept .1 .0)
 
 slice-aggregate-write-all : tie.Need-slice-aggregate-write-all
-slice-aggregate-write-all c = ?w
+slice-aggregate-write-all c =
+    let p = c .before .before .plan-text in sym (length-take-le (p .result) (p .last .1 .0) (within-out (p .ensures) (p .kept .1 .0)))
 
 write-all-requires : tie.Need-write-all-requires
 write-all-requires c κs = search needs
