@@ -3,11 +3,11 @@
 use Prim.Native.Nat.{ℕ, zero, suc, pred, _+_, _*_, _-_, _%_, _^_, min}
 use mathlib.Core.Bool.{Bool}
 use mathlib.Core.List.{List, [], _∷_}
-use lib.Dec.{leb, ltb, eqb}
+use lib.Dec.{leb, ltb}
 use lib.ListN.{length}
 use Rattle.laws.specs.Sum.{gate}
 use Rattle.laws.specs.Tests.{every}
-use Rattle.laws.specs.Lists.{nth, tab}
+use Rattle.laws.specs.Lists.{nth, tab, orLater}
 use Rattle.tasks.specs.declared.Task.{Task}
 use Rattle.tasks.specs.Task.{task}
 use Rattle.tasks.specs.Refusal.{within, unless, tableLength}
@@ -21,9 +21,13 @@ use Rattle.player.specs.declared.Next.{Next}
 unfoldable pub shownCell : ℕ → ℕ → ℕ → ℕ → ℕ → ℕ → ℕ
 shownCell m n age offset j v = gate (every (leb v n ∷ leb offset age ∷ ltb j m ∷ [])) v
 
+-- the same with its task's offset among all
+abbrev pub cellOf : ℕ → ℕ → ℕ → List ℕ → ℕ → ℕ → ℕ
+cellOf m n age offsets j v = shownCell m n age (nth offsets (pred v)) j v
+
 -- four cells, one a core: those of the slot at the record's position
 unfoldable pub cellsOf : Player → List ℕ
-cellsOf p = tab 4 (λ j. let v = nth (p .table) (p .position * p .m + j) in shownCell (p .m) (p .n) (p .age) (nth (p .offsets) (pred v)) j v)
+cellsOf p = tab 4 (λ j. cellOf (p .m) (p .n) (p .age) (p .offsets) j (nth (p .table) (p .position * p .m + j)))
 
 -- a refused start or step shows four 0 cells and missed 0
 abbrev pub answerOr : ℕ → Shown → Shown
@@ -40,13 +44,13 @@ recordOr (suc r) made p = p
 abbrev pub elapsedOf : ℕ → ℕ → ℕ
 elapsedOf tick last = (tick + 2 ^ 32 - last) % 2 ^ 32
 
--- not spoilt: H 1..1024, m 1..4, task count 1..16, position below H, age not over 1024
-unfoldable pub unspoilt : Player → Bool
-unspoilt p = every (within 1 1024 (p .h) ∷ within 1 4 (p .m) ∷ within 1 16 (p .n) ∷ ltb (p .position) (p .h) ∷ leb (p .age) 1024 ∷ [])
+-- spoilt unless: H 1..1024, m 1..4, task count 1..16, position below H, age not over 1024
+abbrev pub ranges : Player → List Bool
+ranges p = within 1 1024 (p .h) ∷ within 1 4 (p .m) ∷ within 1 16 (p .n) ∷ ltb (p .position) (p .h) ∷ leb (p .age) 1024 ∷ []
 
 -- 12 spoilt; 15 the elapsed number is from 2^31 up; 0 for none
 unfoldable pub stepRefusal : Player → ℕ → ℕ
-stepRefusal p tick = unless (unspoilt p) 12 (unless (ltb (elapsedOf tick (p .last)) (2 ^ 31)) 15 0)
+stepRefusal p tick = unless (every (ranges p)) 12 (unless (ltb (elapsedOf tick (p .last)) (2 ^ 31)) 15 0)
 
 -- position advances by the elapsed number modulo H, age by it but not past 1024, and last becomes the new tick
 unfoldable pub advanced : Player → ℕ → Player
@@ -117,8 +121,13 @@ nextOf p tick = let q = afterStep p tick in
     record {
       last = q .last;
       missed = stepped p tick .missed;
-      at = gate (eqb (stepRefusal p tick) 0) (q .position * q .m);
+      at = orLater (stepRefusal p tick) (q .position * q .m);
       position = q .position;
       age = q .age;
       verdict = stepRefusal p tick;
     }
+
+-- the answer to what a step works out, with the four cells of the table
+unfoldable pub answerOf : Next → ℕ → ℕ → List ℕ → List ℕ → Shown
+answerOf x m n offsets cells =
+    answerOr (x .verdict) (record { verdict = 0; cells = tab 4 (λ j. cellOf m n (x .age) offsets j (nth cells j)); missed = x .missed })

@@ -1,7 +1,9 @@
 // The player: its record, what a step works out of it, and what it shows.
 ghost use mathlib.Core.Path.{_≡_};
-ghost use Prim.Native.Nat.{_+_, _-_, min};
-ghost use Rattle.player.specs.Player.{elapsedOf, numbers, stepRefusal, nextOf, shownCell};
+ghost use Prim.Native.Nat.{_+_, _-_, _<_, min, pred};
+ghost use mathlib.Core.List.{[], _∷_};
+ghost use Rattle.laws.specs.Lists.{nth};
+ghost use Rattle.player.specs.Player.{elapsedOf, numbers, stepRefusal, nextOf, shownCell, cellOf, answerOf};
 
 use tasks::{MAX_CORES, MAX_SLOTS, MAX_TASKS};
 
@@ -50,4 +52,141 @@ fn elapsed(tick: u32, last: u32) -> u32
     ensures { λ r. ⌜ r ≡ elapsedOf tick last ⌝ }
 {
     std::num::wrapping_sub_u32(tick, last)
+}
+
+// Refusal 12, then 15; 0 if there is none. H is not 0, since position is below it.
+fn step_refusal(last: u32, h: u16, position: u16, age: u16, m: u8, n: u8, tick: u32) -> u8
+    ensures { λ r. ⌜ r ≡ stepRefusal (numbers last h position age m n) tick ⌝ }
+{
+    if MAX_SLOTS < h {
+        return SPOILT;
+    }
+    if m == 0 {
+        return SPOILT;
+    }
+    if MAX_CORES < m {
+        return SPOILT;
+    }
+    if n == 0 {
+        return SPOILT;
+    }
+    if MAX_TASKS < n {
+        return SPOILT;
+    }
+    if h <= position {
+        return SPOILT;
+    }
+    if MAX_AGE < age {
+        return SPOILT;
+    }
+    if FIRST_PAST <= elapsed(tick, last) {
+        return PAST;
+    }
+    0
+}
+
+// Age advanced by the elapsed number, but not past 1024.
+fn older(age: u16, elapsed: u32) -> u16
+    requires { ⌜ elapsed < 2147483648 ⌝ }
+    ensures { λ r. ⌜ r ≡ min (age + elapsed) 1024 ⌝ }
+{
+    let sum = age as u32 + elapsed;
+    if (MAX_AGE as u32) < sum {
+        MAX_AGE
+    } else {
+        sum as u16
+    }
+}
+
+// The slots missed: elapsed - 1, and 0 if elapsed is 0.
+fn missed(elapsed: u32) -> u32
+    ensures { λ r. ⌜ r ≡ elapsed - 1 ⌝ }
+{
+    if elapsed == 0 { 0 } else { elapsed - 1 }
+}
+
+// All that a step works out of the record's numbers.
+fn next_of(last: u32, h: u16, position: u16, age: u16, m: u8, n: u8, tick: u32) -> Next
+    ensures { λ r. ⌜ r ≡ nextOf (numbers last h position age m n) tick ⌝ }
+{
+    let verdict = step_refusal(last, h, position, age, m, n, tick);
+    if verdict != 0 {
+        return Next {
+            last,
+            missed: 0,
+            at: 0,
+            position,
+            age,
+            verdict,
+        };
+    }
+    let e = elapsed(tick, last);
+    let slot = (position as u32 + e) % (h as u32);
+    Next {
+        last: tick,
+        missed: missed(e),
+        at: slot as usize * m as usize,
+        position: slot as u16,
+        age: older(age, e),
+        verdict,
+    }
+}
+
+// A cell as it is shown on a core.
+fn shown_cell(m: u8, n: u8, age: u16, offset: u16, core: u8, cell: u8) -> u8
+    ensures { λ r. ⌜ r ≡ shownCell m n age offset core cell ⌝ }
+{
+    if n < cell {
+        return 0;
+    }
+    if age < offset {
+        return 0;
+    }
+    if m <= core {
+        return 0;
+    }
+    cell
+}
+
+// The offset of the task in a cell. A cell above 16 has none.
+fn offset_of(offsets: [u16; 16], cell: u8) -> u16
+    ensures { λ r. ⌜ r ≡ nth offsets (pred cell) ⌝ }
+{
+    let place = if cell == 0 { 0 } else { cell - 1 };
+    if MAX_TASKS <= place {
+        return 0;
+    }
+    offsets[place as usize]
+}
+
+// A cell as it is shown on a core, with its task's offset among all.
+fn cell_of(m: u8, n: u8, age: u16, offsets: [u16; 16], core: u8, cell: u8) -> u8
+    ensures { λ r. ⌜ r ≡ cellOf m n age offsets core cell ⌝ }
+{
+    shown_cell(m, n, age, offset_of(offsets, cell), core, cell)
+}
+
+// The answer of a step: a refused one shows four 0 cells.
+fn answer(next: Next, m: u8, n: u8, offsets: [u16; 16], a: u8, b: u8, c: u8, d: u8) -> Shown
+    ensures { λ r. ⌜ r ≡ answerOf next m n offsets (a ∷ b ∷ c ∷ d ∷ []) ⌝ }
+{
+    let verdict = next.verdict;
+    if verdict != 0 {
+        return Shown {
+            verdict,
+            cells: [0; 4],
+            missed: 0,
+        };
+    }
+    let age = next.age;
+    Shown {
+        verdict,
+        cells: [
+            cell_of(m, n, age, offsets, 0, a),
+            cell_of(m, n, age, offsets, 1, b),
+            cell_of(m, n, age, offsets, 2, c),
+            cell_of(m, n, age, offsets, 3, d),
+        ],
+        missed: next.missed,
+    }
 }
