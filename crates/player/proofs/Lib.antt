@@ -1,1 +1,5 @@
 pub mod StepLaws
+pub mod PlayLaws
+pub mod ClockLaws
+pub mod Accepted
+pub mod Demand2

@@ -64,7 +64,7 @@ unspoilt-passes p u = holds-every (ranges p) (
 )
 
 -- a test that passes, and one that fails
-unless-yes : (b : Bool) (k next : ℕ) → T b → unless b k next ≡ next
+pub unless-yes : (b : Bool) (k next : ℕ) → T b → unless b k next ≡ next
 unfolding unless
 unless-yes true k next t = refl
 unless-yes false k next t = absurd t
