@@ -90,7 +90,6 @@ module _ (p : Player) (u : Unspoilt p) where
 -- ---- the cells of a start's record
 -- the age tells of an offset up to 1024 what the time tells
 age-tells : (m n s offset j v : ℕ) → offset ≤ 1024 → shownCell m n (min s 1024) offset j v ≡ shownCell m n s offset j v
-unfolding shownCell
 age-tells m n s offset j v h = ⊎-elim
     (λ l. rw (lt-leb offset (min s 1024) (omega arith), lt-leb offset s l))
     (λ l. rw (le-leb offset (min s 1024) (omega arith), le-leb offset s l))

@@ -34,7 +34,6 @@ tests m n age offset j v = leb v n ∷ leb offset age ∷ ltb j m ∷ []
 
 -- a cell that passes its tests is shown as it stands
 pub shown-own : (m n age offset j v : ℕ) → v ≤ n → offset ≤ age → j < m → shownCell m n age offset j v ≡ v
-unfolding shownCell
 shown-own m n age offset j v a b c = gate-yes _ v (holds-every (tests m n age offset j v) (le→leb v n a, (le→leb offset age b, (lt→ltb j m c, tt))))
 
 -- a gate that lets i through, which is not 0
@@ -45,7 +44,6 @@ through false v i x e = absurd (x (sym e))
 
 -- a cell that is shown as i, which is not idle, is i, and passed its tests
 pub shown-is : (m n age offset j v i : ℕ) → i ≢ 0 → shownCell m n age offset j v ≡ i → (v ≡ i) × (v ≤ n) × (offset ≤ age) × (j < m)
-unfolding shownCell
 shown-is m n age offset j v i x e =
     let h = through _ v i x e in
     let t = every-holds (tests m n age offset j v) (h .0) in
@@ -53,12 +51,10 @@ shown-is m n age offset j v i x e =
 
 -- a cell on a core that the board lacks is shown as 0
 pub shown-beyond : (m n age offset j v : ℕ) → m ≤ j → shownCell m n age offset j v ≡ 0
-unfolding shownCell
 shown-beyond m n age offset j v l = gate-no _ v (λ t. let k : j < m = ltb→lt j m (every-holds (tests m n age offset j v) t .1 .1 .0) in omega arith)
 
 -- and so is an idle cell
 pub shown-idle : (m n age offset j : ℕ) → shownCell m n age offset j 0 ≡ 0
-unfolding shownCell
 shown-idle m n age offset j = gate-zero _
 
 -- ---- the work of a job, slot by slot

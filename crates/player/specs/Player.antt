@@ -18,7 +18,7 @@ use Rattle.player.specs.declared.Next.{Next}
 
 -- ---- what is shown
 -- a cell v on core j is shown as 0 if it is above the task count n, if its task's offset exceeds age, or if the board lacks that core
-unfoldable pub shownCell : ℕ → ℕ → ℕ → ℕ → ℕ → ℕ → ℕ
+abbrev pub shownCell : ℕ → ℕ → ℕ → ℕ → ℕ → ℕ → ℕ
 shownCell m n age offset j v = gate (every (leb v n ∷ leb offset age ∷ ltb j m ∷ [])) v
 
 -- the same with its task's offset among all
