@@ -1,5 +1,7 @@
 pub mod StepLaws
+mod ApartLaws
 pub mod PlayLaws
 pub mod ClockLaws
 pub mod Accepted
 pub mod Demand2
+mod Element

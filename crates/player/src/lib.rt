@@ -3,7 +3,7 @@ ghost use mathlib.Core.Path.{_≡_};
 ghost use Prim.Native.Nat.{_+_, _-_, _<_, min, pred};
 ghost use mathlib.Core.List.{[], _∷_};
 ghost use Rattle.laws.specs.Lists.{nth};
-ghost use Rattle.player.specs.Player.{elapsedOf, numbers, stepRefusal, nextOf, shownCell, cellOf, answerOf};
+ghost use Rattle.player.specs.Player.{elapsedOf, numbers, stepRefusal, stepped, afterStep, nextOf, shownCell, cellOf, answerOf};
 
 use tasks::{MAX_CORES, MAX_SLOTS, MAX_TASKS};
 
@@ -189,4 +189,20 @@ fn answer(next: Next, m: u8, n: u8, offsets: [u16; 16], a: u8, b: u8, c: u8, d: 
         ],
         missed: next.missed,
     }
+}
+
+// A step: the record is taken apart, and what changes is stored where it stands.
+pub fn step(p: &mut Player, tick: u32) -> Shown
+    ensures { λ r. ⌜ (r ≡ stepped (now (p .entry)) tick) × (now (p .exit) ≡ afterStep (now (p .entry)) tick) ⌝ }
+{
+    let next = next_of(p.last, p.h, p.position, p.age, p.m, p.n, tick);
+    let at = next.at;
+    let a = p.table[at];
+    let b = p.table[at + 1];
+    let c = p.table[at + 2];
+    let d = p.table[at + 3];
+    p.last = next.last;
+    p.position = next.position;
+    p.age = next.age;
+    answer(next, p.m, p.n, p.offsets, a, b, c, d)
 }
