@@ -22,6 +22,7 @@ use Rattle.player.specs.declared.Shown.{Shown}
 use Rattle.player.specs.Player.{elapsedOf, shownCell, cellOf, cellsOf, stepRefusal, advanced, stepped, afterStep, recordOf}
 use Rattle.player.specs.Played.{tickAfter, afterSteps, total, InTime, none, step, moved, shownAs, shownAt}
 use Rattle.player.proofs.StepLaws.{Unspoilt, not-refused}
+use Rattle.player.proofs.StartLaws.{padded-at}
 use Rattle.player.proofs.PlayLaws.{shown-beyond, shown-idle, cell-lt}
 
 -- ---- ticks
@@ -116,12 +117,12 @@ module _ {m : ℕ} {ts : List Task} (s : SoundList m ts) (table : List ℕ) (τ 
   -- it holds the table's cells
   made-cell : (c : ℕ) → c < tableLength ts * m → nth (made .table) c ≡ nth table c
   unfolding recordOf
-  made-cell c l = tab-at 4096 _ c 0 (omega (arith, mul-le-mul (s .few-slots) (s .few-cores))) ∙ gate-lt c (tableLength ts * m) (nth table c) l
+  made-cell c l = padded-at 4096 (tableLength ts * m) (nth table) c (omega (arith, mul-le-mul (s .few-slots) (s .few-cores))) l
 
   -- and the tasks' offsets
   made-offset : (k : ℕ) → k < length ts → nth (made .offsets) k ≡ task ts (suc k) .offset .0
   unfolding recordOf
-  made-offset k l = tab-at 16 _ k 0 (omega (arith, s .few-tasks)) ∙ gate-lt k (length ts) _ l
+  made-offset k l = padded-at 16 (length ts) _ k (omega (arith, s .few-tasks)) l
 
   -- a known cell is shown by its record as by its time
   made-shown : (t j v : ℕ) → v ≤ length ts → cellOf m (length ts) (min t 1024) (made .offsets) j v ≡ shownAs m ts t j v

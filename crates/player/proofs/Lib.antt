@@ -1,5 +1,6 @@
 pub mod StepLaws
 mod ApartLaws
+mod StartLaws
 pub mod PlayLaws
 pub mod ClockLaws
 pub mod Accepted

@@ -89,6 +89,10 @@ checkRefusal (checked x) = faultRefusal x
 abbrev pub startRefusal : ℕ → List Task → List ℕ → ℕ
 startRefusal m ts t = checkRefusal (check m ts t)
 
+-- n numbers: the first k by a rule, the unused ones 0
+unfoldable pub padded : ℕ → ℕ → (ℕ → ℕ) → List ℕ
+padded n k g = tab n (λ i. gate (ltb i k) (g i))
+
 -- the record that a start makes: position 0, age 0; unused offsets and cells are 0
 unfoldable pub recordOf : ℕ → List Task → List ℕ → ℕ → Player
 recordOf m ts t tick = record {
@@ -96,10 +100,10 @@ recordOf m ts t tick = record {
   h = tableLength ts;
   position = 0;
   age = 0;
-  offsets = tab 16 (λ k. gate (ltb k (length ts)) (task ts (suc k) .offset .0));
+  offsets = padded 16 (length ts) (λ k. task ts (suc k) .offset .0);
   m = m;
   n = length ts;
-  table = tab 4096 (λ c. gate (ltb c (tableLength ts * m)) (nth t c));
+  table = padded 4096 (tableLength ts * m) (nth t);
 }
 
 -- what a start answers: as a step does, for slot 0, missed 0

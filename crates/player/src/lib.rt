@@ -1,11 +1,12 @@
 // The player: its record, what a step works out of it, and what it shows.
 ghost use mathlib.Core.Path.{_≡_};
-ghost use Prim.Native.Nat.{_+_, _-_, _<_, min, pred};
+ghost use Prim.Native.Nat.{_+_, _-_, _≤_, _<_, min, pred};
+ghost use lib.ListN.{length};
 ghost use mathlib.Core.List.{[], _∷_};
 ghost use Rattle.laws.specs.Lists.{nth};
-ghost use Rattle.player.specs.Player.{elapsedOf, numbers, stepRefusal, stepped, afterStep, nextOf, shownCell, cellOf, answerOf};
+ghost use Rattle.player.specs.Player.{elapsedOf, numbers, stepRefusal, stepped, afterStep, nextOf, shownCell, cellOf, answerOf, padded};
 
-use tasks::{MAX_CORES, MAX_SLOTS, MAX_TASKS};
+use tasks::{MAX_CORES, MAX_SLOTS, MAX_TASKS, TaskList};
 
 // The player's record. The fields stand so that C lays them out without gaps.
 pub struct Player {
@@ -205,4 +206,33 @@ pub fn step(p: &mut Player, tick: u32) -> Shown
     p.position = next.position;
     p.age = next.age;
     answer(next, p.m, p.n, p.offsets, a, b, c, d)
+}
+
+// The offsets of a list; unused ones are 0.
+fn offsets_of(list: TaskList) -> [u16; 16]
+    requires { ⌜ list .n ≤ 16 ⌝ }
+    ensures { λ r. ⌜ r ≡ padded 16 (list .n) (nth (list .offset)) ⌝ }
+{
+    let n = list.n as usize;
+    let mut offsets = [0u16; 16];
+    let mut k: usize = 0;
+    while k < n {
+        offsets[k] = list.offset[k];
+        k += 1;
+    }
+    offsets
+}
+
+// The first cells of a table; unused ones are 0.
+fn cells_of(table: &[u8], count: usize) -> [u8; 4096]
+    requires { ⌜ (count ≤ 4096) × (count ≤ length (now table)) ⌝ }
+    ensures { λ r. ⌜ r ≡ padded 4096 count (nth (now (table .entry))) ⌝ }
+{
+    let mut cells = [0u8; 4096];
+    let mut c: usize = 0;
+    while c < count {
+        cells[c] = table[c];
+        c += 1;
+    }
+    cells
 }
