@@ -1,6 +1,7 @@
 -- The player: what a start and a step answer, and what they leave of the record.
 -- Assumes nothing.
-use Prim.Native.Nat.{ℕ, zero, suc, pred, _+_, _*_, _-_, _%_, _^_, min}
+use Prim.Native.Nat.{ℕ, zero, suc, pred, _+_, _*_, _-_, _%_, _^_, _≤_, min}
+use mathlib.Core.Path.{_≡_}
 use mathlib.Core.Bool.{Bool}
 use mathlib.Core.List.{List, [], _∷_}
 use lib.Dec.{leb, ltb}
@@ -9,7 +10,8 @@ use Rattle.laws.specs.Sum.{gate}
 use Rattle.laws.specs.Tests.{every}
 use Rattle.laws.specs.Lists.{nth, tab, orLater}
 use Rattle.tasks.specs.declared.Task.{Task}
-use Rattle.tasks.specs.Task.{task}
+use Rattle.tasks.specs.declared.TaskList.{TaskList}
+use Rattle.tasks.specs.Task.{task, rows}
 use Rattle.tasks.specs.Refusal.{within, unless, tableLength}
 use Rattle.table.specs.Fault.{Fault, noFault, inCell, inJob, Checked, refused, checked, check}
 use Rattle.player.specs.declared.Player.{Player}
@@ -106,13 +108,25 @@ recordOf m ts t tick = record {
   table = padded 4096 (tableLength ts * m) (nth t);
 }
 
--- what a start answers: as a step does, for slot 0, missed 0
+-- what a start answers of a record: as a step does, missed 0
+abbrev pub firstShown : Player → ℕ → Shown
+firstShown p r = answerOr r (record { verdict = 0; cells = cellsOf p; missed = 0 })
+
+-- what a start answers: for slot 0
 unfoldable pub started : ℕ → List Task → List ℕ → ℕ → Shown
-started m ts t tick = answerOr (startRefusal m ts t) (record { verdict = 0; cells = cellsOf (recordOf m ts t tick); missed = 0 })
+started m ts t tick = firstShown (recordOf m ts t tick) (startRefusal m ts t)
 
 -- the record after a start
 unfoldable pub afterStart : ℕ → List Task → List ℕ → ℕ → Player → Player
 afterStart m ts t tick p = recordOr (startRefusal m ts t) (recordOf m ts t tick) p
+
+-- a list, the length h of its table, and a table that has as many cells
+pub record Startable (list : TaskList) (h m : ℕ) (t : List ℕ) : Type 0 where
+  pub few-tasks : list .n ≤ 16
+  pub few-slots : h ≤ 1024
+  pub few-cores : m ≤ 4
+  pub length-is : h ≡ tableLength (rows list)
+  pub room : h * m ≤ length t
 
 -- ---- a step by its numbers
 -- a record of these numbers, its arrays left out

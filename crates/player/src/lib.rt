@@ -4,9 +4,10 @@ ghost use Prim.Native.Nat.{_+_, _-_, _≤_, _<_, min, pred};
 ghost use lib.ListN.{length};
 ghost use mathlib.Core.List.{[], _∷_};
 ghost use Rattle.laws.specs.Lists.{nth};
-ghost use Rattle.player.specs.Player.{elapsedOf, numbers, stepRefusal, stepped, afterStep, nextOf, shownCell, cellOf, answerOf, padded};
+ghost use Rattle.tasks.specs.Task.{rows};
+ghost use Rattle.player.specs.Player.{elapsedOf, numbers, stepRefusal, stepped, afterStep, nextOf, shownCell, cellOf, answerOf, padded, Startable, startRefusal, recordOf, firstShown, afterStart};
 
-use tasks::{MAX_CORES, MAX_SLOTS, MAX_TASKS, TaskList};
+use tasks::{MAX_CORES, MAX_SLOTS, MAX_TASKS, Soundness, TaskList};
 
 // The player's record. The fields stand so that C lays them out without gaps.
 pub struct Player {
@@ -235,4 +236,51 @@ fn cells_of(table: &[u8], count: usize) -> [u8; 4096]
         c += 1;
     }
     cells
+}
+
+// The record that a start makes for a sound list, whose table has h slots.
+fn record_of(list: TaskList, h: u16, m: u8, table: &[u8], tick: u32) -> Player
+    requires { ⌜ Startable list h m (now table) ⌝ }
+    ensures { λ r. ⌜ r ≡ recordOf m (rows list) (now (table .entry)) tick ⌝ }
+{
+    Player {
+        last: tick,
+        h,
+        position: 0,
+        age: 0,
+        offsets: offsets_of(list),
+        m,
+        n: list.n,
+        table: cells_of(table, h as usize * m as usize),
+    }
+}
+
+// The record after a start, by the number that the checker's answer gives; a refused start leaves it as it was.
+fn begin(p: Player, verdict: u8, list: TaskList, m: u8, table: &[u8], tick: u32) -> Player
+    requires { ⌜ verdict ≡ startRefusal m (rows list) (now table) ⌝ }
+    ensures { λ r. ⌜ r ≡ afterStart m (rows list) (now (table .entry)) tick p ⌝ }
+{
+    if verdict != 0 {
+        return p;
+    }
+    match tasks::test_list(list, m) {
+        Soundness::Sound(h) => record_of(list, h.0, m, table, tick),
+        Soundness::Refused(_) => p,
+    }
+}
+
+// What a start answers of the record that it left: as a step does, for slot 0, missed 0.
+fn first_shown(p: Player, verdict: u8) -> Shown
+    requires { ⌜ (verdict ≡ 0 → p .position ≡ 0) ⌝ }
+    ensures { λ r. ⌜ r ≡ firstShown p verdict ⌝ }
+{
+    let next = Next {
+        last: p.last,
+        missed: 0,
+        at: 0,
+        position: p.position,
+        age: p.age,
+        verdict,
+    };
+    answer(next, p.m, p.n, p.offsets, p.table[0], p.table[1], p.table[2], p.table[3])
 }
