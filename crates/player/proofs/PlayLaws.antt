@@ -131,7 +131,7 @@ module _ {m : ℕ} {ts : List Task} (s : SoundList m ts) where
       plays-open = let h = shown-stands in (
         (t - task ts i .offset .0) / task ts i .period .0,
         open-window windows (task ts i .offset .0) t (h .1) (ltb→lt _ _
-        (rw (h .0, digits-div (t % tableLength ts) (h .2)) at (v .open-there (cellAt t j) (cell-lt t j (h .2)) (λ z. x (sym (h .0) ∙ z))))),
+            (rw (h .0, digits-div (t % tableLength ts) (h .2)) at (v .open-there (cellAt t j) (cell-lt t j (h .2)) (λ z. x (sym (h .0) ∙ z))))),
       )
 
       -- and on cores with a positive rate for it

@@ -26,8 +26,9 @@ use Rattle.tasks.specs.Instance.{instanceOf}
 use Rattle.tasks.proofs.SoundLaws.{rows-length, rows-task, sound-list, soundness-sound, soundness-refused}
 use Rattle.table.specs.Fault.{Fault, checkedIf, check}
 use Rattle.player.specs.declared.Player.{Player}
+use Rattle.player.specs.declared.Next.{Next}
 use Rattle.player.specs.declared.Shown.{Shown}
-use Rattle.player.specs.Player.{cellsOf, answerOf, firstShown, checkRefusal, startRefusal, padded, recordOf, afterStart, Startable}
+use Rattle.player.specs.Player.{cellsOf, staysOf, answerOf, firstShown, checkRefusal, startRefusal, padded, recordOf, afterStart, Startable}
 
 -- ---- arrays
 -- n numbers
@@ -135,10 +136,8 @@ module _ (list : TaskList) (m : ℕ) (t : List ℕ) (v : ℕ) (e : v ≡ startRe
   not-told k q = let h = soundness-refused m k (rows list) (sym told ∙ q) in h .1 (h .0 ∙ start-sound m (rows list) t (sym e ∙ z) .0)
 
 -- the answer of a start, by the first four cells of its record
-pub first-is : (p : Player) (v : ℕ) (s : Shown) → (v ≡ 0 → p .position ≡ 0)
-    → s ≡ answerOf (record { last = p .last; missed = 0; at = 0; position = p .position; age = p .age; verdict = v }) (p .m) (p .n) (p .offsets)
-    (nth (p .table) 0 ∷ nth (p .table) 1 ∷ nth (p .table) 2 ∷ nth (p .table) 3 ∷ [])
-    → s ≡ firstShown p v
+pub first-is : (p : Player) (v : ℕ) (x : Next) (s : Shown) → (v ≡ 0 → p .position ≡ 0) → x ≡ staysOf (p .last) (p .position) (p .age) v
+    → s ≡ answerOf x (p .m) (p .n) (p .offsets) (nth (p .table) 0 ∷ nth (p .table) 1 ∷ nth (p .table) 2 ∷ nth (p .table) 3 ∷ []) → s ≡ firstShown p v
 unfolding answerOf cellsOf tab
-first-is p zero s h e = e ∙ rw (h refl, zero-mul, zero-add)
-first-is p (suc v) s h e = e
+first-is p zero x s h q e = e ∙ rw (q, h refl, zero-mul, zero-add)
+first-is p (suc v) x s h q e = e ∙ rw q

@@ -17,7 +17,7 @@ use Rattle.tasks.proofs.SoundLaws.{within-is}
 use Rattle.player.specs.declared.Player.{Player}
 use Rattle.player.specs.declared.Next.{Next}
 use Rattle.player.specs.declared.Shown.{Shown}
-use Rattle.player.specs.Player.{elapsedOf, ranges, stepRefusal, advanced, stepped, afterStep, nextOf, cellOf, answerOr, answerOf}
+use Rattle.player.specs.Player.{elapsedOf, ranges, stepRefusal, advanced, stepped, afterStep, staysOf, nextOf, cellOf, answerOr, answerOf}
 
 -- the numbers of a record that is not spoilt
 pub record Unspoilt (p : Player) : Type 0 where
@@ -58,9 +58,13 @@ passes-unspoilt p t =
 pub unspoilt-passes : (p : Player) → Unspoilt p → T (every (ranges p))
 unspoilt-passes p u = holds-every (ranges p) (
   is-within 1 1024 (p .h) (u .some-slot) (u .few-slots),
-  (is-within 1 4 (p .m) (u .some-core) (u .few-cores),
-  (is-within 1 16 (p .n) (u .some-task) (u .few-tasks),
-  (lt→ltb _ _ (u .in-table), (le→leb _ _ (u .age-le), tt)))),
+  (
+    is-within 1 4 (p .m) (u .some-core) (u .few-cores),
+    (
+      is-within 1 16 (p .n) (u .some-task) (u .few-tasks),
+      (lt→ltb _ _ (u .in-table), (le→leb _ _ (u .age-le), tt)),
+    ),
+  ),
 )
 
 -- a test that passes, and one that fails
@@ -104,8 +108,7 @@ module _ (p : Player) (tick : ℕ) where
       (passes-unspoilt p (t .0), rw is (ltb→lt _ _ (t .1)))
 
   -- what a refused step works out
-  pub next-refused : (v : ℕ) → v ≡ stepRefusal p tick → v ≢ 0
-      → _≡_ {A = Next} (record { last = p .last; missed = 0; at = 0; position = p .position; age = p .age; verdict = v }) (nextOf p tick)
+  pub next-refused : (v : ℕ) → v ≡ stepRefusal p tick → v ≢ 0 → staysOf (p .last) (p .position) (p .age) v ≡ nextOf p tick
   unfolding nextOf stepped afterStep
   next-refused zero e ne = absurd (ne refl)
   next-refused (suc x) e ne = rw (← e)

@@ -133,6 +133,10 @@ pub record Startable (list : TaskList) (h m : ℕ) (t : List ℕ) : Type 0 where
 abbrev pub numbers : ℕ → ℕ → ℕ → ℕ → ℕ → ℕ → Player
 numbers last h position age m n = record { last = last; h = h; position = position; age = age; offsets = []; m = m; n = n; table = [] }
 
+-- what a refused step works out: the record stays as it was
+abbrev pub staysOf : ℕ → ℕ → ℕ → ℕ → Next
+staysOf last position age verdict = record { last = last; missed = 0; at = 0; position = position; age = age; verdict = verdict }
+
 -- what a step works out of the record's numbers: its verdict, what it stores, missed, and where the slot's cells begin in the table
 unfoldable pub nextOf : Player → ℕ → Next
 nextOf p tick = let q = afterStep p tick in

@@ -5,9 +5,12 @@ ghost use lib.ListN.{length};
 ghost use mathlib.Core.List.{[], _∷_};
 ghost use Rattle.laws.specs.Lists.{nth};
 ghost use Rattle.tasks.specs.Task.{rows};
-ghost use Rattle.player.specs.Player.{elapsedOf, numbers, stepRefusal, stepped, afterStep, nextOf, shownCell, cellOf, answerOf, padded, Startable, startRefusal, recordOf, firstShown, afterStart};
-
-use tasks::{MAX_CORES, MAX_SLOTS, MAX_TASKS, Soundness, TaskList};
+ghost use Rattle.player.specs.Player.{elapsedOf, numbers, stepRefusal, stepped, afterStep, staysOf, nextOf, shownCell, cellOf, answerOf, padded, Startable, startRefusal, recordOf, firstShown, afterStart};
+use tasks::MAX_CORES;
+use tasks::MAX_SLOTS;
+use tasks::MAX_TASKS;
+use tasks::Soundness;
+use tasks::TaskList;
 
 // The player's record. The fields stand so that C lays them out without gaps.
 pub struct Player {
@@ -94,10 +97,9 @@ fn older(age: u16, elapsed: u32) -> u16
 {
     let sum = age as u32 + elapsed;
     if (MAX_AGE as u32) < sum {
-        MAX_AGE
-    } else {
-        sum as u16
+        return MAX_AGE;
     }
+    sum as u16
 }
 
 // The slots missed: elapsed - 1, and 0 if elapsed is 0.
@@ -107,30 +109,39 @@ fn missed(elapsed: u32) -> u32
     if elapsed == 0 { 0 } else { elapsed - 1 }
 }
 
+// What a refused step works out: the record stays as it was.
+fn stays(last: u32, position: u16, age: u16, verdict: u8) -> Next
+    ensures { λ r. ⌜ r ≡ staysOf last position age verdict ⌝ }
+{
+    Next {
+        last,
+        missed: 0,
+        at: 0,
+        position,
+        age,
+        verdict,
+    }
+}
+
 // All that a step works out of the record's numbers.
 fn next_of(last: u32, h: u16, position: u16, age: u16, m: u8, n: u8, tick: u32) -> Next
     ensures { λ r. ⌜ r ≡ nextOf (numbers last h position age m n) tick ⌝ }
 {
-    let verdict = step_refusal(last, h, position, age, m, n, tick);
-    if verdict != 0 {
-        return Next {
-            last,
-            missed: 0,
-            at: 0,
-            position,
-            age,
-            verdict,
-        };
+    let refusal = step_refusal(last, h, position, age, m, n, tick);
+    if refusal != 0 {
+        return stays(last, position, age, refusal);
     }
     let e = elapsed(tick, last);
     let slot = (position as u32 + e) % (h as u32);
+    let at = slot as usize * m as usize;
+    let moved = slot as u16;
     Next {
         last: tick,
         missed: missed(e),
-        at: slot as usize * m as usize,
-        position: slot as u16,
+        at,
+        position: moved,
         age: older(age, e),
-        verdict,
+        verdict: refusal,
     }
 }
 
@@ -274,13 +285,15 @@ fn first_shown(p: Player, verdict: u8) -> Shown
     requires { ⌜ (verdict ≡ 0 → p .position ≡ 0) ⌝ }
     ensures { λ r. ⌜ r ≡ firstShown p verdict ⌝ }
 {
-    let next = Next {
-        last: p.last,
-        missed: 0,
-        at: 0,
-        position: p.position,
-        age: p.age,
-        verdict,
-    };
-    answer(next, p.m, p.n, p.offsets, p.table[0], p.table[1], p.table[2], p.table[3])
+    let next = stays(p.last, p.position, p.age, verdict);
+    answer(
+        next,
+        p.m,
+        p.n,
+        p.offsets,
+        p.table[0],
+        p.table[1],
+        p.table[2],
+        p.table[3],
+    )
 }

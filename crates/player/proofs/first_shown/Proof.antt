@@ -5,6 +5,9 @@ use borrow.Author.Needs.{needs}
 use Rattle.player.proofs.first_shown.Statement.{statement}
 use Rattle.player.proofs.first_shown.Tie as tie
 
+stays-requires : tie.Need-stays-requires
+stays-requires c κs = search needs
+
 element-copy-out-answer : tie.Need-element-copy-out-answer
 element-copy-out-answer c = search needs
 
@@ -21,12 +24,13 @@ answer-requires : tie.Need-answer-requires
 answer-requires c κs = search needs
 
 returns : tie.Need-returns
-returns c = first-is _ _ _ (c .before .before .before .before .before .before .pre) (c .answer .ensures)
+returns c = let d = c .before .before .before .before .before .before in first-is _ _ _ _ (d .before .pre) (d .stays .ensures) (c .answer .ensures)
 
 pub first-shown-spec : {M : Type 1} → statement M
 first-shown-spec =
     tie.close
     (tie.spec
+    stays-requires
     element-copy-out-answer
     element-copy-out-answer-2
     element-copy-out-answer-3

@@ -1,12 +1,12 @@
 -- `player::next_of` meets its contract: a step that is not refused has numbers in range, so position + elapsed fits, and the place of its cells too.
 -- Assumes nothing.
 use Prim.Native.Nat.{_+_, _%_, _≤_, _<_, _^_}
-use mathlib.Core.Path.{_≡_, sym, ap, _∙_}
+use mathlib.Core.Path.{_∙_}
 use native.Mathlib.Nat.{mod-lt}
 use native.Mathlib.Omega.{arith}
+use borrow.Author.Needs.{needs}
 use Rattle.player.specs.Player.{numbers}
 use Rattle.player.proofs.StepLaws.{Unspoilt, refused-not, next-refused, next-taken, first-cell}
-use borrow.Author.Needs.{needs}
 use Rattle.player.proofs.next_of.Statement.{statement}
 use Rattle.player.proofs.next_of.Tie as tie
 
@@ -21,8 +21,11 @@ slot-lt c = let k = in-time c in (mod-lt _ (k .0 .some-slot), k .0 .few-slots, k
 step-refusal-requires : tie.Need-step-refusal-requires
 step-refusal-requires c κs = search needs
 
+stays-requires : tie.Need-stays-requires
+stays-requires c κs = search needs
+
 returns : tie.Need-returns
-returns c = next-refused _ _ _ (c .before .step-refusal .ensures) (c .if1 .taken)
+returns c = c .stays .ensures ∙ next-refused _ _ _ (c .before .before .step-refusal .ensures) (c .before .if1 .taken)
 
 elapsed-requires : tie.Need-elapsed-requires
 elapsed-requires c κs = search needs
@@ -33,36 +36,37 @@ add-slot c = let k = in-time c in omega arith
 rem-slot : tie.Need-rem-slot
 rem-slot c = let k = in-time c in omega arith
 
+cast-at : tie.Need-cast-at
+cast-at c = let k = slot-lt c in omega arith
+
+mul-at : tie.Need-mul-at
+mul-at c = let k = slot-lt c in omega (arith, first-cell (k .0) (k .1) (k .2))
+
+cast-moved : tie.Need-cast-moved
+cast-moved c = let k = slot-lt c in omega arith
+
 missed-requires : tie.Need-missed-requires
 missed-requires c κs = search needs
-
-cast-t15 : tie.Need-cast-t15
-cast-t15 c = let k = slot-lt (c .before) in omega arith
-
-mul-t17 : tie.Need-mul-t17
-mul-t17 c = let k = slot-lt (c .before) in omega (arith, first-cell (k .0) (k .1) (k .2))
-
-cast-t18 : tie.Need-cast-t18
-cast-t18 c = let k = slot-lt (c .before) in omega arith
 
 older-requires : tie.Need-older-requires
 older-requires c κs = in-time (c .before) .1
 
 returns-2 : tie.Need-returns-2
-returns-2 c = next-taken _ _ _ _ _ _ (c .before .before .before .before .step-refusal .ensures) (c .before .before .before .if1 .left) (c .before .before .elapsed .ensures) (c .before .missed .ensures) (c .older .ensures)
+returns-2 c = let d = c .before .before .before in next-taken _ _ _ _ _ _ (d .before .step-refusal .ensures) (d .if1 .left) (c .before .before .elapsed .ensures) (c .before .missed .ensures) (c .older .ensures)
 
 pub next-of-spec : {M : Type 1} → statement M
 next-of-spec =
     tie.close
     (tie.spec
     step-refusal-requires
+    stays-requires
     returns
     elapsed-requires
     add-slot
     rem-slot
+    cast-at
+    mul-at
+    cast-moved
     missed-requires
-    cast-t15
-    mul-t17
-    cast-t18
     older-requires
     returns-2)

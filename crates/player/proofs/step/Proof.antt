@@ -82,7 +82,6 @@ array-is : (w : Width) (n : ℕ) (xs : List ℕ) → Is (Array (UInt w) n) (map 
     → Is (Array (UInt w) n) xs (arrayVal (map (λ x. vint w x) xs) ∷ [])
 array-is w n xs is = subst (λ (ys : List ℕ). Is (Array (UInt w) n) ys (arrayVal (map (λ x. vint w x) ys) ∷ [])) (map-id xs) is
 
-
 byte-fits : (xs : List ℕ) (us : List Val) → shadow (each ℕ (u8 .own) xs us) → (k : ℕ) → k < length xs → getD xs k 0 < 2 ^ 8
 byte-fits [] us s k l = absurd (not-suc-le-zero l)
 byte-fits (x ∷ xs) [] s k l = absurd s
@@ -116,7 +115,6 @@ lies h vs is =
       size = t .1 .0 .1;
       cell = λ k l. byte-fits (h .table) (t .0) (t .1 .1) k (subst (λ (j : ℕ). k < j) (sym (t .1 .0 .1)) l);
     }
-
 
 abbrev NextOf : {M : Type 1} (𝓤 : URA M) (H : Heap 𝓤) (A : Atoms 𝓤) (mem : Memory → SProp 𝓤) (run : Routine → Fun 𝓤) → Contract 𝓤
 NextOf 𝓤 H A mem run = tripleOf 𝓤 H A next-of.signature (next-of.spec 𝓤 H A mem run)
@@ -166,8 +164,16 @@ module _ {M : Type 1} (𝓤 : URA M) (H : Heap 𝓤) (A : Atoms 𝓤) (W : Given
 
   -- ---- the two calls
   abbrev to-next : NextOf 𝓤 H A at-mem run .Ghost
-  to-next = ((tt, tt, tt, (h .last, (h .h, (h .position, (h .age, (h .m, (h .n, (n, tt))))))),
-      (vint w32 (h .last) ∷ [], (vint w16 (h .h) ∷ [], (vint w16 (h .position) ∷ [], (vint w16 (h .age) ∷ [], (vint w8 (h .m) ∷ [], (vint w8 (h .n) ∷ [], (vint w32 n ∷ [], tt)))))))), tt)
+  to-next = (
+    (
+      tt,
+      tt,
+      tt,
+      (h .last, (h .h, (h .position, (h .age, (h .m, (h .n, (n, tt))))))),
+      (vint w32 (h .last) ∷ [], (vint w16 (h .h) ∷ [], (vint w16 (h .position) ∷ [], (vint w16 (h .age) ∷ [], (vint w8 (h .m) ∷ [], (vint w8 (h .n) ∷ [], (vint w32 n ∷ [], tt))))))),
+    ),
+    tt,
+  )
 
   goes-next : Lies h → ent 𝓤 (emp 𝓤) (NextOf 𝓤 H A at-mem run .pre to-next)
   goes-next l = qed W [] ∵ nothing ! $
@@ -184,9 +190,28 @@ module _ {M : Type 1} (𝓤 : URA M) (H : Heap 𝓤) (A : Atoms 𝓤) (W : Given
   next-told r = exE 𝓤 _ (λ ws. snd∗ 𝓤 (sem 𝓤 H A (lasts next-of.ended tt (to-next .0 .3) ws)) (fact 𝓤 (Worked r)))
 
   abbrev to-answer : Next → Answer 𝓤 H A at-mem run .Ghost
-  to-answer r = ((tt, tt, tt, (r, (h .m, (h .n, (h .offsets, (first r, (cell r 1, (cell r 2, (cell r 3, tt)))))))),
-      (N′.lowered r ∷ [], (vint w8 (h .m) ∷ [], (vint w8 (h .n) ∷ [], (arrayVal (map (λ x. vint w16 x) (h .offsets)) ∷ [],
-      (vint w8 (first r) ∷ [], (vint w8 (cell r 1) ∷ [], (vint w8 (cell r 2) ∷ [], (vint w8 (cell r 3) ∷ [], tt))))))))), tt)
+  to-answer r = (
+    (
+      tt,
+      tt,
+      tt,
+      (r, (h .m, (h .n, (h .offsets, (first r, (cell r 1, (cell r 2, (cell r 3, tt)))))))),
+      (
+        N′.lowered r ∷ [],
+        (
+          vint w8 (h .m) ∷ [],
+          (
+            vint w8 (h .n) ∷ [],
+            (
+              arrayVal (map (λ x. vint w16 x) (h .offsets)) ∷ [],
+              (vint w8 (first r) ∷ [], (vint w8 (cell r 1) ∷ [], (vint w8 (cell r 2) ∷ [], (vint w8 (cell r 3) ∷ [], tt)))),
+            ),
+          ),
+        ),
+      ),
+    ),
+    tt,
+  )
 
   goes-answer : (r : Next) → Lies h → Is N.the-row r (N′.lowered r ∷ []) → r .at ≤ 4092 → ent 𝓤 (emp 𝓤) (Answer 𝓤 H A at-mem run .pre (to-answer r))
   goes-answer r l is k = qed W [] ∵ nothing ! $
