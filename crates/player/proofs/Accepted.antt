@@ -1,22 +1,21 @@
 -- A start accepts each valid table: no cell and no job of it has a fault.
 -- Assumes nothing.
 use Prim.Native.Nat.{ℕ, zero, suc, _≤_, _<_}
-use mathlib.Core.Path.{_≡_, refl, sym, ap, _∙_}
+use mathlib.Core.Path.{_≡_, refl, sym, _∙_}
 use mathlib.Core.Logic.{_≢_}
-use mathlib.Core.Bool.{Bool, true, false}
 use mathlib.Core.List.{List}
 use native.Mathlib.Nat.{le-refl}
 use native.Mathlib.Omega.{arith}
-use lib.Dec.{T, leb, le→leb, lt→ltb}
+use lib.Dec.{le→leb, lt→ltb}
 use lib.ListN.{length}
 use borrow.Author.Tests.{le-ltb}
-use Rattle.laws.specs.Lists.{nth, seek}
+use Rattle.laws.specs.Lists.{nth}
 use Rattle.laws.proofs.ListLaws.{seek-none, first-none}
 use Rattle.tasks.specs.declared.Task.{Task}
-use Rattle.tasks.specs.Refusal.{unless, orNext, refusal, tableLength, IsSound}
+use Rattle.tasks.specs.Refusal.{orNext, tableLength, IsSound}
 use Rattle.tasks.specs.Instance.{Instance, instanceOf}
-use Rattle.table.specs.Table.{cells, slotOf, coreOf, done, Valid}
-use Rattle.table.specs.Fault.{noFault, kindOf, cellKind, jobKind, jobFault, fault, checked, check}
+use Rattle.table.specs.Table.{cells, Valid}
+use Rattle.table.specs.Fault.{noFault, kindOf, cellKind, jobKind, jobFault, fault, check}
 use Rattle.table.proofs.TableLaws.{make-free}
 use Rattle.player.specs.Player.{startRefusal}
 use Rattle.player.proofs.StepLaws.{unless-yes}

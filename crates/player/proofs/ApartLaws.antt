@@ -1,15 +1,15 @@
 -- A step that takes the record apart: what it works out of the numbers, stored and shown with the four cells that it reads, is the step of the record.
 -- Assumes nothing.
-use Prim.Native.Nat.{ℕ, zero, suc, _+_, _-_, _%_, _≤_, min}
+use Prim.Native.Nat.{ℕ, zero, suc, _+_, _≤_}
 use mathlib.Core.Path.{_≡_, refl, sym, ap, _∙_}
 use mathlib.Core.List.{[], _∷_}
-use native.Mathlib.Nat.{mod-lt, add-zero}
+use native.Mathlib.Nat.{add-zero}
 use native.Mathlib.Omega.{arith}
 use Rattle.laws.specs.Lists.{nth, tab}
 use Rattle.player.specs.declared.Player.{Player}
 use Rattle.player.specs.declared.Next.{Next}
-use Rattle.player.specs.Player.{cellsOf, elapsedOf, stepRefusal, advanced, stepped, afterStep, numbers, nextOf, answerOf}
-use Rattle.player.proofs.StepLaws.{refused-not, next-refused, next-taken, first-cell}
+use Rattle.player.specs.Player.{cellsOf, stepRefusal, advanced, stepped, afterStep, numbers, nextOf, answerOf}
+use Rattle.player.proofs.StepLaws.{refused-not, next-refused, next-taken, cells-at}
 
 module _ (p : Player) (tick : ℕ) where
   abbrev bare : Player
@@ -42,7 +42,7 @@ module _ (p : Player) (tick : ℕ) where
   -- the four cells that a step reads lie in the table's room
   at-le : (v : ℕ) → v ≡ stepRefusal p tick → nextOf p tick .at ≤ 4092
   unfolding nextOf afterStep advanced
-  at-le zero e = let u = refused-not p tick 0 _ e refl refl .0 in rw (← e) (first-cell (mod-lt _ (u .some-slot)) (u .few-slots) (u .few-cores))
+  at-le zero e = rw (← e) (cells-at _ (refused-not p tick 0 _ e refl refl .0))
   at-le (suc v) e = rw (← e) (omega arith)
 
   answer-is : (v : ℕ) → v ≡ stepRefusal p tick → let at = nextOf p tick .at in

@@ -1,24 +1,21 @@
 -- The player's clock: steps that are in time add up, across the counter's wrap, and the record of a start shows the table's cells of its time.
 -- Assumes nothing.
-use Prim.Native.Nat.{ℕ, zero, suc, pred, _+_, _*_, _-_, _%_, _^_, _≤_, _<_, min}
-use mathlib.Core.Path.{_≡_, refl, sym, ap, ap₂, _∙_}
+use Prim.Native.Nat.{ℕ, zero, suc, _+_, _*_, _-_, _%_, _^_, _≤_, _<_, min}
+use mathlib.Core.Path.{_≡_, sym, ap, _∙_}
 use mathlib.Core.Logic.{⊎-elim}
 use mathlib.Core.List.{List, [], _∷_}
 use native.Mathlib.Omega.{arith}
 use native.Mathlib.Nat.{mod-lt, mod-eq-of-lt, mod-add-mod, mul-le-mul, add-zero, zero-add, add-assoc}
-use lib.Dec.{leb, ltb}
 use lib.ListN.{length}
-use borrow.Author.Tests.{le-leb, lt-leb, le-ltb}
-use Rattle.laws.specs.Sum.{gate}
-use Rattle.laws.specs.Lists.{nth, tab}
-use Rattle.laws.proofs.SumLaws.{lt-or-ge, gate-lt, gate-zero, gate-no}
-use Rattle.laws.proofs.ListLaws.{tab-at, tab-same}
+use borrow.Author.Tests.{le-leb, lt-leb}
+use Rattle.laws.specs.Lists.{nth}
+use Rattle.laws.proofs.SumLaws.{lt-or-ge}
+use Rattle.laws.proofs.ListLaws.{tab-same}
 use Rattle.tasks.specs.declared.Task.{Task}
 use Rattle.tasks.specs.Task.{task}
 use Rattle.tasks.specs.Refusal.{tableLength}
 use Rattle.tasks.proofs.SoundLaws.{SoundList}
 use Rattle.player.specs.declared.Player.{Player}
-use Rattle.player.specs.declared.Shown.{Shown}
 use Rattle.player.specs.Player.{elapsedOf, shownCell, cellOf, cellsOf, stepRefusal, advanced, stepped, afterStep, recordOf}
 use Rattle.player.specs.Played.{tickAfter, afterSteps, total, InTime, none, step, moved, shownAs, shownAt}
 use Rattle.player.proofs.StepLaws.{Unspoilt, not-refused}

@@ -2,9 +2,9 @@
 -- The statements come first, then their proofs.
 -- Assumes nothing.
 use Prim.Native.Nat.{ℕ, zero, suc, _+_, _*_, _-_, _%_, _^_, _≤_, _<_, min}
-use mathlib.Core.Path.{_≡_, refl, sym, ap, ap₂, _∙_, subst}
+use mathlib.Core.Path.{_≡_, refl, sym, ap, ap₂, _∙_}
 use mathlib.Core.Logic.{_≢_}
-use mathlib.Core.List.{List, [], _∷_}
+use mathlib.Core.List.{List}
 use native.Mathlib.Omega.{arith}
 use native.Mathlib.Nat.{zero-add}
 use native.Mathlib.Numerals.{add-one}
@@ -16,13 +16,13 @@ use Rattle.laws.proofs.SumLaws.{sum-ext}
 use Rattle.laws.proofs.ListLaws.{tab-at}
 use Rattle.tasks.specs.declared.Task.{Task}
 use Rattle.tasks.specs.Task.{rate, task}
-use Rattle.tasks.specs.Refusal.{tableLength, IsSound}
+use Rattle.tasks.specs.Refusal.{within, unless, tableLength, IsSound}
 use Rattle.tasks.specs.Window.{InWindow}
 use Rattle.tasks.specs.Instance.{instanceOf}
 use Rattle.tasks.proofs.SoundLaws.{SoundList, sound-list, length-whole, instance-regular}
 use Rattle.table.specs.Table.{cells, Valid}
 use Rattle.player.specs.declared.Player.{Player}
-use Rattle.player.specs.Player.{cellsOf, stepped, afterStep, startRefusal, recordOf, started, afterStart}
+use Rattle.player.specs.Player.{cellsOf, stepRefusal, advanced, stepped, afterStep, numbers, startRefusal, recordOf, started, afterStart}
 use Rattle.player.specs.Played.{shownAs, shownAt, tickAfter, recordAt, answerAt, playedCell, playedUnits, moved, afterSteps, total, InTime}
 use Rattle.player.proofs.StepLaws.{Unspoilt}
 use Rattle.player.proofs.PlayLaws.{plays-work, plays-open, plays-rated, plays-once}
@@ -144,3 +144,9 @@ module _ (m : ℕ) (ts : List Task) (t : List ℕ) (τ : ℕ) (p : Player) (soun
       shows = λ e l. ap (λ a. a .cells) (next-answer e l) ∙ cells-at (total es + e);
       misses = λ e l. ap (λ a. a .missed) (next-answer e l);
     }
+
+-- ---- 01's example
+-- H = 12, and slot 3 at tick 4294967295: at the next tick, 0, it is slot 4 and not 0
+after-wrap : afterStep (numbers 4294967295 12 3 3 1 1) 0 .position ≡ 4
+unfolding afterStep stepRefusal advanced within unless
+after-wrap = refl

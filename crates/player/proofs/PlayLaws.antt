@@ -1,7 +1,7 @@
 -- A valid table, played, serves each task: from its offset on a task is shown exactly where it stands, so each of its windows gets the work of the window's job.
 -- Assumes nothing.
-use Prim.Native.Nat.{ℕ, suc, _+_, _*_, _-_, _/_, _%_, _≤_, _<_}
-use mathlib.Core.Path.{_≡_, refl, sym, ap, _∙_}
+use Prim.Native.Nat.{ℕ, _+_, _*_, _-_, _/_, _%_, _≤_, _<_}
+use mathlib.Core.Path.{_≡_, refl, sym, _∙_}
 use mathlib.Core.Logic.{_≢_}
 use mathlib.Core.Bool.{Bool, true, false, _&&_}
 use mathlib.Core.List.{List, [], _∷_}
@@ -12,8 +12,6 @@ use lib.Dec.{T, leb, ltb, eqb, leb→le, ltb→lt, le→leb, lt→ltb}
 use lib.ListN.{length}
 use lib.Arith.{digits-div, digits-mod}
 use Rattle.laws.specs.Sum.{gate, sum}
-use Rattle.laws.specs.Tests.{every}
-use Rattle.laws.specs.Lists.{nth}
 use Rattle.laws.proofs.SumLaws.{gate-yes, gate-no, gate-ne, gate-zero, sum-ext, sum-gate, sum-nested, sum-stays}
 use Rattle.laws.proofs.TestLaws.{every-holds, holds-every}
 use Rattle.tasks.specs.declared.Task.{Task}

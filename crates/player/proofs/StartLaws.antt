@@ -9,7 +9,7 @@ use native.Mathlib.Nat.{le-antisymm, zero-mul, zero-add}
 use native.Mathlib.Decide.{ℕ-discrete}
 use native.Mathlib.Omega.{arith}
 use lib.Dec.{T, ltb, leb→le, eqb·suc-zero}
-use lib.ListN.{length, getD, set, replicate, length-set, length-replicate, getD-replicate}
+use lib.ListN.{length, set, replicate, length-set, length-replicate, getD-replicate}
 use lib.Seq.{ext-getD, getD-set-same, getD-set-other}
 use Rattle.laws.specs.Sum.{gate}
 use Rattle.laws.specs.Lists.{nth, tab}
@@ -28,7 +28,7 @@ use Rattle.table.specs.Fault.{Fault, checkedIf, check}
 use Rattle.player.specs.declared.Player.{Player}
 use Rattle.player.specs.declared.Next.{Next}
 use Rattle.player.specs.declared.Shown.{Shown}
-use Rattle.player.specs.Player.{cellsOf, staysOf, answerOf, firstShown, checkRefusal, startRefusal, padded, recordOf, afterStart, Startable}
+use Rattle.player.specs.Player.{cellsOf, staysOf, answerOf, firstShown, checkRefusal, startRefusal, padded, recordOf, started, afterStart, Startable}
 
 -- ---- arrays
 -- n numbers
@@ -115,6 +115,17 @@ module _ (m : ℕ) (ts : List Task) (t : List ℕ) where
     pub start-taken : (v : ℕ) (r : Player) → v ≡ startRefusal m ts t → v ≡ 0 → r ≡ recordOf m ts t tick → r ≡ afterStart m ts t tick p
     unfolding afterStart
     start-taken v r e z q = rw (← e, z, q)
+
+    -- a start shows the cells of the record that it leaves, and a refused one zeros
+    pub start-shows : (v : ℕ) → v ≡ startRefusal m ts t → firstShown (afterStart m ts t tick p) v ≡ started m ts t tick
+    unfolding started afterStart
+    start-shows zero e = rw (← e)
+    start-shows (suc v) e = rw (← e)
+
+    -- from slot 0
+    pub start-slot : (v : ℕ) → v ≡ startRefusal m ts t → v ≡ 0 → afterStart m ts t tick p .position ≡ 0
+    unfolding afterStart recordOf
+    start-slot v e z = rw (← e, z)
 
 module _ (list : TaskList) (m : ℕ) (t : List ℕ) (v : ℕ) (e : v ≡ startRefusal m (rows list) t) (z : v ≡ 0) (r : Soundness) (told : r ≡ soundnessOf m (rows list)) where
   -- the list of a start that is not refused is told as sound, and its record can be made

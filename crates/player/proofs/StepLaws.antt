@@ -1,14 +1,13 @@
 -- What a step works out of the record's numbers: when it is refused, and what it stores.
 -- Assumes nothing.
 use Prim.Native.Nat.{ℕ, zero, suc, _+_, _*_, _-_, _%_, _^_, _≤_, _<_, min}
-use mathlib.Core.Path.{_≡_, refl, sym, ap, _∙_, subst}
+use mathlib.Core.Path.{_≡_, refl, sym, _∙_}
 use mathlib.Core.Logic.{_≢_}
 use mathlib.Core.Bool.{Bool, true, false}
 use mathlib.Core.List.{List, [], _∷_}
 use native.Mathlib.Omega.{arith}
 use native.Mathlib.Nat.{mod-lt, mul-le-mul}
-use lib.Dec.{T, leb, ltb, eqb, leb→le, ltb→lt, le→leb, lt→ltb}
-use Rattle.laws.specs.Sum.{gate}
+use lib.Dec.{T, leb, ltb, leb→le, ltb→lt, le→leb, lt→ltb}
 use Rattle.laws.specs.Tests.{every}
 use Rattle.laws.specs.Lists.{tab}
 use Rattle.laws.proofs.TestLaws.{make-both, every-holds, holds-every}
@@ -29,10 +28,6 @@ pub record Unspoilt (p : Player) : Type 0 where
   pub few-tasks : p .n ≤ 16
   pub in-table : p .position < p .h
   pub age-le : p .age ≤ 1024
-
--- a slot's cells begin four before the end of the table's room or earlier
-pub first-cell : {slot h m : ℕ} → slot < h → h ≤ 1024 → m ≤ 4 → slot * m ≤ 4092
-first-cell l h m = mul-le-mul {n₂ = 1023} {m₂ = 4} (omega arith) m
 
 -- a number in a range passes its test
 is-within : (low high x : ℕ) → low ≤ x → x ≤ high → T (within low high x)
@@ -66,6 +61,17 @@ unspoilt-passes p u = holds-every (ranges p) (
     ),
   ),
 )
+
+-- a slot of its table fits any number from 1024 up
+pub slot-below : {p : Player} {b : ℕ} (x : ℕ) → Unspoilt p → 1024 ≤ b → x % p .h < b
+slot-below x u l = omega (arith, mod-lt x (u .some-slot), u .few-slots)
+
+-- its cells begin four before the end of the table's room or earlier
+pub cells-at : {p : Player} (x : ℕ) → Unspoilt p → x % p .h * p .m ≤ 4092
+cells-at x u = mul-le-mul {n₂ = 1023} {m₂ = 4} (omega (arith, mod-lt x (u .some-slot), u .few-slots)) (u .few-cores)
+
+pub cells-below : {p : Player} {b : ℕ} (x : ℕ) → Unspoilt p → 4096 ≤ b → x % p .h * p .m < b
+cells-below x u l = omega (arith, cells-at x u)
 
 -- a test that passes, and one that fails
 pub unless-yes : (b : Bool) (k next : ℕ) → T b → unless b k next ≡ next

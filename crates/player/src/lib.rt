@@ -1,11 +1,11 @@
-// The player: its record, what a step works out of it, and what it shows.
+// The player: its record, a step, and the record that a start makes.
 ghost use mathlib.Core.Path.{_≡_};
-ghost use Prim.Native.Nat.{_+_, _-_, _≤_, _<_, min, pred};
-ghost use lib.ListN.{length};
+ghost use Prim.Native.Nat.{_+_, _-_, _^_, _≤_, _<_, min, pred};
+ghost use lib.ListN.{length, replicate};
 ghost use mathlib.Core.List.{[], _∷_};
 ghost use Rattle.laws.specs.Lists.{nth};
 ghost use Rattle.tasks.specs.Task.{rows};
-ghost use Rattle.player.specs.Player.{elapsedOf, numbers, stepRefusal, stepped, afterStep, staysOf, nextOf, shownCell, cellOf, answerOf, padded, Startable, startRefusal, recordOf, firstShown, afterStart};
+ghost use Rattle.player.specs.Player.{elapsedOf, numbers, stepRefusal, stepped, afterStep, staysOf, nextOf, shownCell, cellOf, answerOf, padded, Startable, startRefusal, recordOf, afterStart};
 use tasks::MAX_CORES;
 use tasks::MAX_SLOTS;
 use tasks::MAX_TASKS;
@@ -92,7 +92,7 @@ fn step_refusal(last: u32, h: u16, position: u16, age: u16, m: u8, n: u8, tick: 
 
 // Age advanced by the elapsed number, but not past 1024.
 fn older(age: u16, elapsed: u32) -> u16
-    requires { ⌜ elapsed < 2147483648 ⌝ }
+    requires { ⌜ elapsed < 2 ^ 31 ⌝ }
     ensures { λ r. ⌜ r ≡ min (age + elapsed) 1024 ⌝ }
 {
     let sum = age as u32 + elapsed;
@@ -179,7 +179,7 @@ fn cell_of(m: u8, n: u8, age: u16, offsets: [u16; 16], core: u8, cell: u8) -> u8
     shown_cell(m, n, age, offset_of(offsets, cell), core, cell)
 }
 
-// The answer of a step: a refused one shows four 0 cells.
+// The answer to what a step works out, with the four cells of the table; a refused one shows four 0 cells.
 fn answer(next: Next, m: u8, n: u8, offsets: [u16; 16], a: u8, b: u8, c: u8, d: u8) -> Shown
     ensures { λ r. ⌜ r ≡ answerOf next m n offsets (a ∷ b ∷ c ∷ d ∷ []) ⌝ }
 {
@@ -235,12 +235,19 @@ fn offsets_of(list: TaskList) -> [u16; 16]
     offsets
 }
 
+// A table's room, every cell 0.
+fn no_cells() -> [u8; 4096]
+    ensures { λ r. ⌜ r ≡ replicate 4096 0 ⌝ }
+{
+    [0u8; 4096]
+}
+
 // The first cells of a table; unused ones are 0.
 fn cells_of(table: &[u8], count: usize) -> [u8; 4096]
     requires { ⌜ (count ≤ 4096) × (count ≤ length (now table)) ⌝ }
     ensures { λ r. ⌜ r ≡ padded 4096 count (nth (now (table .entry))) ⌝ }
 {
-    let mut cells = [0u8; 4096];
+    let mut cells = no_cells();
     let mut c: usize = 0;
     while c < count {
         cells[c] = table[c];
@@ -278,22 +285,4 @@ fn begin(p: Player, verdict: u8, list: TaskList, m: u8, table: &[u8], tick: u32)
         Soundness::Sound(h) => record_of(list, h.0, m, table, tick),
         Soundness::Refused(_) => p,
     }
-}
-
-// What a start answers of the record that it left: as a step does, for slot 0, missed 0.
-fn first_shown(p: Player, verdict: u8) -> Shown
-    requires { ⌜ (verdict ≡ 0 → p .position ≡ 0) ⌝ }
-    ensures { λ r. ⌜ r ≡ firstShown p verdict ⌝ }
-{
-    let next = stays(p.last, p.position, p.age, verdict);
-    answer(
-        next,
-        p.m,
-        p.n,
-        p.offsets,
-        p.table[0],
-        p.table[1],
-        p.table[2],
-        p.table[3],
-    )
 }

@@ -1,9 +1,8 @@
 -- `player::cells_of` meets its contract: the first c cells are copied, the rest are 0.
 -- Assumes nothing.
 use Prim.Native.Nat.{_-_, _≤_}
-use mathlib.Core.Path.{_≡_, refl, sym, ap, _∙_}
+use mathlib.Core.Path.{_≡_, _∙_}
 use native.Mathlib.Omega.{arith}
-use lib.ListN.{set}
 use borrow.Author.Needs.{needs}
 use Rattle.laws.specs.Lists.{nth}
 use Rattle.player.specs.Player.{padded}
@@ -17,8 +16,11 @@ Inv-loop table count cells₀ c₀ cells c = (c ≤ count) × (cells ≡ padded 
 abbrev μ-loop : tie.MeasureT-loop
 μ-loop table count cells₀ c₀ cells c = count - c
 
+no-cells-requires : tie.Need-no-cells-requires Inv-loop μ-loop
+no-cells-requires c κs = search needs
+
 loop-holds : tie.Need-loop-holds Inv-loop μ-loop
-loop-holds c = (search needs, padded-none 4096 _)
+loop-holds c = (search needs, c .no-cells .ensures ∙ padded-none 4096 _)
 
 shared-slice-read-cells : tie.Need-shared-slice-read-cells Inv-loop μ-loop
 shared-slice-read-cells c = search needs
@@ -44,6 +46,7 @@ cells-of-spec =
     (tie.spec
     Inv-loop
     μ-loop
+    no-cells-requires
     loop-holds
     shared-slice-read-cells
     array-write-cells

@@ -1,22 +1,17 @@
 -- `player::next_of` meets its contract: a step that is not refused has numbers in range, so position + elapsed fits, and the place of its cells too.
 -- Assumes nothing.
-use Prim.Native.Nat.{_+_, _%_, _≤_, _<_, _^_}
+use Prim.Native.Nat.{_<_, _^_}
 use mathlib.Core.Path.{_∙_}
-use native.Mathlib.Nat.{mod-lt}
 use native.Mathlib.Omega.{arith}
 use borrow.Author.Needs.{needs}
 use Rattle.player.specs.Player.{numbers}
-use Rattle.player.proofs.StepLaws.{Unspoilt, refused-not, next-refused, next-taken, first-cell}
+use Rattle.player.proofs.StepLaws.{Unspoilt, refused-not, next-refused, next-taken, slot-below, cells-below}
 use Rattle.player.proofs.next_of.Statement.{statement}
 use Rattle.player.proofs.next_of.Tie as tie
 
 -- what is known where the step is not refused
 in-time : (c : tie.After-elapsed) → let a = c .before .before .before .args in Unspoilt (numbers (a .last) (a .h) (a .position) (a .age) (a .m) (a .n)) × (c .elapsed .result < 2 ^ 31)
 in-time c = refused-not _ _ _ _ (c .before .before .step-refusal .ensures) (c .before .if1 .left) (c .elapsed .ensures)
-
--- the slot is below H
-slot-lt : (c : tie.After-elapsed) → let a = c .before .before .before .args in ((a .position + c .elapsed .result) % a .h < a .h) × (a .h ≤ 1024) × (a .m ≤ 4)
-slot-lt c = let k = in-time c in (mod-lt _ (k .0 .some-slot), k .0 .few-slots, k .0 .few-cores)
 
 step-refusal-requires : tie.Need-step-refusal-requires
 step-refusal-requires c κs = search needs
@@ -37,13 +32,13 @@ rem-slot : tie.Need-rem-slot
 rem-slot c = let k = in-time c in omega arith
 
 cast-at : tie.Need-cast-at
-cast-at c = let k = slot-lt c in omega arith
+cast-at c = record { fits = slot-below _ (in-time c .0) (omega arith) }
 
 mul-at : tie.Need-mul-at
-mul-at c = let k = slot-lt c in omega (arith, first-cell (k .0) (k .1) (k .2))
+mul-at c = record { fits = cells-below _ (in-time c .0) (omega arith) }
 
 cast-moved : tie.Need-cast-moved
-cast-moved c = let k = slot-lt c in omega arith
+cast-moved c = record { fits = slot-below _ (in-time c .0) (omega arith) }
 
 missed-requires : tie.Need-missed-requires
 missed-requires c κs = search needs

@@ -1,9 +1,8 @@
 -- `player::offsets_of` meets its contract: the first k offsets are copied, the rest are 0.
 -- Assumes nothing.
 use Prim.Native.Nat.{_-_, _≤_}
-use mathlib.Core.Path.{_≡_, refl, sym, ap, _∙_}
+use mathlib.Core.Path.{_≡_}
 use native.Mathlib.Omega.{arith}
-use lib.ListN.{set}
 use borrow.Author.Needs.{needs}
 use Rattle.laws.specs.Lists.{nth}
 use Rattle.player.specs.Player.{padded}

@@ -3,7 +3,6 @@
 use mathlib.Core.Path.{sym}
 use borrow.Author.Tests.{le-leb, lt-leb, lt-ltb, le-ltb}
 use Rattle.laws.specs.Sum.{gate}
-use Rattle.player.specs.Player.{shownCell}
 use Rattle.player.proofs.shown_cell.Statement.{statement}
 use Rattle.player.proofs.shown_cell.Tie as tie
 

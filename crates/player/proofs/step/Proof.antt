@@ -42,10 +42,10 @@ use denote.Triple.Statement.{Contract, Triple}
 use denote.Triple.Call.{calls-at}
 use denote.Triple.Clauses.{ensured, lasts}
 use denote.Triple.Table.{entered, cited}
-use denote.Triple.Walked.{says, Stays, stay-ref, stay-none, walkOf, AllGo, goes-none, goes-ref, Walks, ends-at, walked, walk-meets}
+use denote.Triple.Walked.{says, Stays, stay-ref, stay-none, walkOf, goes-none, goes-ref, Walks, ends-at, walked, walk-meets}
 use denote.Exit.{yes}
 use Rattle.laws.specs.Lists.{nth}
-use Rattle.player.specs.Player.{numbers, nextOf, answerOf, stepped, afterStep}
+use Rattle.player.specs.Player.{numbers, nextOf, answerOf}
 use Rattle.player.specs.declared.Player.{Player}
 use Rattle.player.specs.declared.Next.{Next}
 use Rattle.player.specs.declared.Shown.{Shown}
