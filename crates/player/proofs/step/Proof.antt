@@ -82,6 +82,7 @@ array-is : (w : Width) (n : ℕ) (xs : List ℕ) → Is (Array (UInt w) n) (map 
     → Is (Array (UInt w) n) xs (arrayVal (map (λ x. vint w x) xs) ∷ [])
 array-is w n xs is = subst (λ (ys : List ℕ). Is (Array (UInt w) n) ys (arrayVal (map (λ x. vint w x) ys) ∷ [])) (map-id xs) is
 
+-- each byte of an array is one
 byte-fits : (xs : List ℕ) (us : List Val) → shadow (each ℕ (u8 .own) xs us) → (k : ℕ) → k < length xs → getD xs k 0 < 2 ^ 8
 byte-fits [] us s k l = absurd (not-suc-le-zero l)
 byte-fits (x ∷ xs) [] s k l = absurd s
@@ -116,6 +117,7 @@ lies h vs is =
       cell = λ k l. byte-fits (h .table) (t .0) (t .1 .1) k (subst (λ (j : ℕ). k < j) (sym (t .1 .0 .1)) l);
     }
 
+-- ---- the contracts that the walk cites
 abbrev NextOf : {M : Type 1} (𝓤 : URA M) (H : Heap 𝓤) (A : Atoms 𝓤) (mem : Memory → SProp 𝓤) (run : Routine → Fun 𝓤) → Contract 𝓤
 NextOf 𝓤 H A mem run = tripleOf 𝓤 H A next-of.signature (next-of.spec 𝓤 H A mem run)
 
@@ -132,6 +134,7 @@ module _ {M : Type 1} (𝓤 : URA M) (H : Heap 𝓤) (A : Atoms 𝓤) (W : Given
   abbrev Post : Val → SProp 𝓤
   Post = walkOf 𝓤 H A f.ended stayed (f.clauses 𝓤 H A at-mem run) .post (((κ, tt), (q, tt), tt, x, at), tt)
 
+  -- what `next_of` says of what it works out
   abbrev Worked : Next → Type 0
   Worked r = r ≡ nextOf (numbers (h .last) (h .h) (h .position) (h .age) (h .m) (h .n)) n
 
@@ -142,6 +145,7 @@ module _ {M : Type 1} (𝓤 : URA M) (H : Heap 𝓤) (A : Atoms 𝓤) (W : Given
   abbrev first : Next → ℕ
   first r = nth (h .table) (r .at)
 
+  -- what `answer` says of what it answers
   abbrev Answered : Next → Shown → Type 0
   Answered r s = s ≡ answerOf r (h .m) (h .n) (h .offsets) (first r ∷ cell r 1 ∷ cell r 2 ∷ cell r 3 ∷ [])
 
@@ -153,6 +157,7 @@ module _ {M : Type 1} (𝓤 : URA M) (H : Heap 𝓤) (A : Atoms 𝓤) (W : Given
       let i = LL.owes T.the-type T′.the-laws (stored h n r) (k .0, (p .1 .0, (k .1 .1 .1 .0, (k .1 .1 .1 .1 .0, p .1 .1 .1 .1)))) in
       subst (Is T.the-row (stored h n r)) (T′.lowers .val-is (stored h n r) _ i) i
 
+  -- what is had at the end is what the contract asks
   exits : (r : Next) (s : Shown) (w : Val) → Worked r → Answered r s → Is S.the-row s (w ∷ [])
       → ent 𝓤 (sep 𝓤 (A .obs γ (T.the-row .coded .code (stored h n r))) (sep 𝓤 (A .bor κ (Body (mem T.the-row) b o γ)) (A .lft κ q))) (Post w)
   exits r s w e a is =
@@ -239,7 +244,7 @@ module _ {M : Type 1} (𝓤 : URA M) (H : Heap 𝓤) (A : Atoms 𝓤) (W : Given
         move ! (50 ∷ 51 ∷ 52 ∷ []) $ opens ! tt T.the-row {h = h} b o (λ vs. spelt ! T.the-row (Is T.the-row) (shows 𝓤 H A T.the-row) (λ d. T′.lowered d ∷ []) (T′.lowers .val-is) fullShare h vs b o $
         use1 W (‵ (fat fullShare T′.mir b o (T′.lowered h))) (W .laws .raw-at fullShare T′.mir b o (T′.lowered h)) $
         move ! (1 ∷ []) $ peeks ! T.the-row (Is T.the-row) (shows 𝓤 H A T.the-row) h (T′.lowered h ∷ []) (λ was. drop ! $
-        -- [the record's cell; the open borrow; obs; auth; _24; …; _0; …]
+        -- [the record's cell; the open borrow; obs; auth; _24; …; _0; …]: the six numbers are copied out, and `next_of` is called
         assigns ! (of-opd ! (load ! (from ! (hop ! (look ! 50 refl) (fld ! refl (stop !)))) (look-in ! 0 (sub ! 0 refl (whole !))))) (from ! (stop !)) (init ! 34 refl (tt, record { fits = lies h _ was .last })) $
         assigns ! (of-opd ! (load ! (from ! (hop ! (look ! 50 refl) (fld ! refl (stop !)))) (look-in ! 0 (sub ! 1 refl (whole !))))) (from ! (stop !)) (init ! 32 refl (tt, record { fits = lies h _ was .h' })) $
         assigns ! (of-opd ! (load ! (from ! (hop ! (look ! 50 refl) (fld ! refl (stop !)))) (look-in ! 0 (sub ! 2 refl (whole !))))) (from ! (stop !)) (init ! 30 refl (tt, record { fits = lies h _ was .position })) $
@@ -253,6 +258,7 @@ module _ {M : Type 1} (𝓤 : URA M) (H : Heap 𝓤) (A : Atoms 𝓤) (W : Given
         peeks ! N.the-row (Is N.the-row) (shows 𝓤 H A N.the-row) r (v ∷ []) (λ is.
         land ! (from ! (stop !)) (init ! 47 refl (LL.lawful N.the-type N′.the-laws 𝓤 H A W .typed r _ is .0)) $
         rewrite ! 47 (λ (u : Val). ‵ (fat fullShare N′.mir l3 0 u)) (ap only (N′.lowers .val-is r (v ∷ []) is)) refl $ drop ! $
+        -- the four bytes are read: the field's address, the place in it, the byte there
         assigns ! (of-opd ! (load ! (from ! (fld ! refl (stop !))) (look-in ! 46 (sub ! 2 refl (whole !))))) (from ! (stop !)) (init ! 44 refl (tt, record { fits = LL.owed N.the-type N′.the-laws r (v ∷ []) is .1 .1 .0 .1 })) $
         assigns ! (addr ! (from ! (hop ! (look ! 50 refl) (fld ! refl (stop !))))) (from ! (stop !)) (init ! 22 refl (tt, tt)) $
         assigns ! (bin ! (load ! (from ! (stop !)) (look ! 22 refl)) (load ! (from ! (stop !)) (look ! 44 refl)) tt) (from ! (stop !)) (init ! 20 refl (tt, tt)) $
@@ -273,9 +279,11 @@ module _ {M : Type 1} (𝓤 : URA M) (H : Heap 𝓤) (A : Atoms 𝓤) (W : Given
         assigns ! (bin ! (load ! (from ! (stop !)) (look ! 8 refl)) (load ! (from ! (stop !)) (look ! 18 refl)) tt) (from ! (stop !)) (init ! 6 refl (tt, tt)) $
         assigns ! (of-opd ! (load ! (from ! (hop ! (look ! 6 refl) (stop !))) (look-in ! 0 (byte ! (h .table) (r .at + 3) (lies h _ was .size) (omega (arith, reads-in h n r e, lies h _ was .size)) (sub ! 7 refl (whole !)))))) (from ! (stop !)) (store ! 24 refl (tt, record { fits = lies h _ was .cell (r .at + 3) (omega (arith, reads-in h n r e)) })) $
         assigns ! (of-opd ! (load ! (from ! (stop !)) (look ! 24 refl))) (from ! (stop !)) (init ! 36 refl (tt, record { fits = lies h _ was .cell (r .at + 3) (omega (arith, reads-in h n r e)) })) $
+        -- last, position and age are stored
         assigns ! (of-opd ! (load ! (from ! (fld ! refl (stop !))) (look-in ! 46 (sub ! 0 refl (whole !))))) (from ! (hop ! (look ! 50 refl) (fld ! refl (stop !)))) (store-in ! 0 (sub ! 0 refl (whole !)) (tt, record { fits = LL.owed N.the-type N′.the-laws r (v ∷ []) is .0 .1 })) $
         assigns ! (of-opd ! (load ! (from ! (fld ! refl (stop !))) (look-in ! 46 (sub ! 3 refl (whole !))))) (from ! (hop ! (look ! 50 refl) (fld ! refl (stop !)))) (store-in ! 0 (sub ! 2 refl (whole !)) (tt, record { fits = LL.owed N.the-type N′.the-laws r (v ∷ []) is .1 .1 .1 .0 .1 })) $
         assigns ! (of-opd ! (load ! (from ! (fld ! refl (stop !))) (look-in ! 46 (sub ! 4 refl (whole !))))) (from ! (hop ! (look ! 50 refl) (fld ! refl (stop !)))) (store-in ! 0 (sub ! 3 refl (whole !)) (tt, record { fits = LL.owed N.the-type N′.the-laws r (v ∷ []) is .1 .1 .1 .1 .0 .1 })) $
+        -- m, n and the offsets are copied out, and `answer` is called
         assigns ! (of-opd ! (load ! (from ! (hop ! (look ! 50 refl) (fld ! refl (stop !)))) (look-in ! 0 (sub ! 5 refl (whole !))))) (from ! (stop !)) (store ! 26 refl (tt, record { fits = lies h _ was .m })) $
         assigns ! (of-opd ! (load ! (from ! (hop ! (look ! 50 refl) (fld ! refl (stop !)))) (look-in ! 0 (sub ! 6 refl (whole !))))) (from ! (stop !)) (store ! 24 refl (tt, record { fits = lies h _ was .n })) $
         assigns ! (of-opd ! (load ! (from ! (hop ! (look ! 50 refl) (fld ! refl (stop !)))) (look-in ! 0 (sub ! 4 refl (whole !))))) (from ! (stop !)) (init ! 4 refl (array-lawful 𝓤 H A W u16 (uint-lawful 𝓤 H A W w16) 16 .typed (h .offsets) _ (lies h _ was .offsets) .0)) $
