@@ -1,0 +1,35 @@
+-- `player::answer` meets its contract: a refused step shows zeros, any other the four cells.
+-- Assumes nothing.
+use borrow.Author.Needs.{needs}
+use Rattle.player.proofs.StepLaws.{answer-refused, answer-taken}
+use Rattle.player.proofs.answer.Statement.{statement}
+use Rattle.player.proofs.answer.Tie as tie
+
+returns : tie.Need-returns
+returns c = answer-refused _ _ _ _ _ (c .if1 .taken)
+
+cell-of-requires : tie.Need-cell-of-requires
+cell-of-requires c κs = search needs
+
+cell-of-requires-2 : tie.Need-cell-of-requires-2
+cell-of-requires-2 c κs = search needs
+
+cell-of-requires-3 : tie.Need-cell-of-requires-3
+cell-of-requires-3 c κs = search needs
+
+cell-of-requires-4 : tie.Need-cell-of-requires-4
+cell-of-requires-4 c κs = search needs
+
+returns-2 : tie.Need-returns-2
+returns-2 c = let d = c .before .before in answer-taken _ _ _ _ _ _ _ _ _ _ _ _ (d .before .before .if1 .left) (d .before .cell-of .ensures) (d .cell-of2 .ensures) (c .before .cell-of3 .ensures) (c .cell-of4 .ensures)
+
+pub answer-spec : {M : Type 1} → statement M
+answer-spec =
+    tie.close
+    (tie.spec
+    returns
+    cell-of-requires
+    cell-of-requires-2
+    cell-of-requires-3
+    cell-of-requires-4
+    returns-2)

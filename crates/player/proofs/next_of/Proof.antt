@@ -1,0 +1,67 @@
+-- `player::next_of` meets its contract: a step that is not refused has numbers in range, so position + elapsed fits, and the place of its cells too.
+-- Assumes nothing.
+use Prim.Native.Nat.{_<_, _^_}
+use mathlib.Core.Path.{_∙_}
+use native.Mathlib.Omega.{arith}
+use borrow.Author.Needs.{needs}
+use Rattle.player.specs.Player.{numbers}
+use Rattle.player.proofs.StepLaws.{Unspoilt, refused-not, next-refused, next-taken, slot-below, cells-below}
+use Rattle.player.proofs.next_of.Statement.{statement}
+use Rattle.player.proofs.next_of.Tie as tie
+
+-- what is known where the step is not refused
+in-time : (c : tie.After-elapsed) → let a = c .before .before .before .args in Unspoilt (numbers (a .last) (a .h) (a .position) (a .age) (a .m) (a .n)) × (c .elapsed .result < 2 ^ 31)
+in-time c = refused-not _ _ _ _ (c .before .before .step-refusal .ensures) (c .before .if1 .left) (c .elapsed .ensures)
+
+step-refusal-requires : tie.Need-step-refusal-requires
+step-refusal-requires c κs = search needs
+
+stays-requires : tie.Need-stays-requires
+stays-requires c κs = search needs
+
+returns : tie.Need-returns
+returns c = c .stays .ensures ∙ next-refused _ _ _ (c .before .before .step-refusal .ensures) (c .before .if1 .taken)
+
+elapsed-requires : tie.Need-elapsed-requires
+elapsed-requires c κs = search needs
+
+add-slot : tie.Need-add-slot
+add-slot c = let k = in-time c in omega arith
+
+rem-slot : tie.Need-rem-slot
+rem-slot c = let k = in-time c in omega arith
+
+cast-at : tie.Need-cast-at
+cast-at c = record { fits = slot-below _ (in-time c .0) (omega arith) }
+
+mul-at : tie.Need-mul-at
+mul-at c = record { fits = cells-below _ (in-time c .0) (omega arith) }
+
+cast-moved : tie.Need-cast-moved
+cast-moved c = record { fits = slot-below _ (in-time c .0) (omega arith) }
+
+missed-requires : tie.Need-missed-requires
+missed-requires c κs = search needs
+
+older-requires : tie.Need-older-requires
+older-requires c κs = in-time (c .before) .1
+
+returns-2 : tie.Need-returns-2
+returns-2 c = let d = c .before .before .before in next-taken _ _ _ _ _ _ (d .before .step-refusal .ensures) (d .if1 .left) (c .before .before .elapsed .ensures) (c .before .missed .ensures) (c .older .ensures)
+
+pub next-of-spec : {M : Type 1} → statement M
+next-of-spec =
+    tie.close
+    (tie.spec
+    step-refusal-requires
+    stays-requires
+    returns
+    elapsed-requires
+    add-slot
+    rem-slot
+    cast-at
+    mul-at
+    cast-moved
+    missed-requires
+    older-requires
+    returns-2)
