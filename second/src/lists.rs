@@ -7,6 +7,7 @@ use crate::random::Random;
 use crate::tasks::{Problem, Task, MOST_CELLS, MOST_CORES, MOST_SLOTS, MOST_TASKS};
 use crate::verdict::Ending;
 use crate::walk::{search, Outcome};
+use std::array::from_fn;
 
 /// How many tries a list is given, usually and at most, so that many lists take little time. Only
 /// a walk that needs fewer gets a higher limit.
@@ -42,6 +43,38 @@ pub fn problem(random: &mut Random) -> Problem {
     }
     set_limit(random, &mut problem);
     problem
+}
+
+/// A problem of the largest size: 16 tasks, 4 cores and 1024 slots; one in three has a table, which
+/// fills every cell.
+pub fn large(random: &mut Random) -> Problem {
+    let slots = MOST_SLOTS as u16;
+    let full = random.once_in(3);
+    let task = |at: usize| {
+        let period = if at == 0 {
+            slots
+        } else {
+            random.pick(&[slots, slots / 2, slots / 4])
+        };
+        let mut rates = [1; MOST_CORES];
+        if full {
+            rates = from_fn(|core| u8::from(core == at % MOST_CORES));
+        }
+        let period = if full { slots } else { period };
+        Task {
+            offset: random.below(MOST_SLOTS) as u16,
+            work: period / 4,
+            deadline: period,
+            period,
+            rates,
+        }
+    };
+    Problem {
+        tasks: (0..MOST_TASKS).map(task).collect(),
+        cores: MOST_CORES as u8,
+        engine: random.below(2) as u8,
+        limit: 300_000,
+    }
 }
 
 /// A sound problem whose periods divide `slots`.

@@ -4,6 +4,10 @@ ghost use Prim.Native.Nat.{_≤_};
 ghost use Rattle.tasks.specs.Task.{rows};
 ghost use Rattle.table.specs.Fault.{check as checkOf};
 ghost use Rattle.rules.specs.Search.{search as searchOf};
+ghost use lib.ListN.{length};
+ghost use lib.Dec.{leb};
+ghost use Rattle.frames.specs.Write.{Written};
+ghost use Rattle.planner.specs.Answer.{answerTo};
 ghost use Rattle.exports.specs.Packed.{listed, SearchedAs, packedAs, checkedAs};
 use tasks::TaskList;
 use checker::Verdict;
@@ -74,4 +78,12 @@ pub extern "C" fn xiphomera_check(
         Verdict::Job(task, job, kind) => packed(2, task as u16, job, kind),
         Verdict::Refused(number) => packed(3, 0, 0, number),
     }
+}
+
+// From the text of a problem to the text of its answer; gives the bytes written, 0 if `out` is too short for the longest answer.
+#[no_mangle]
+pub extern "C" fn xiphomera_plan_text(text: &[u8], out: &mut [u8]) -> usize
+    ensures { λ r. ⌜ Written (leb 15376 (length (now (out .entry)))) (answerTo (now (text .entry))) (now (out .entry)) r (now (out .exit)) ⌝ }
+{
+    planner::plan_text(text, out)
 }

@@ -27,10 +27,17 @@ const PROGRAM_TEXTS: u64 = 300;
 /// For one list in so many, a tiny one is searched by brute force too.
 const TINY: u64 = 10;
 
+/// So many lists of the largest size come first.
+const LARGE: usize = 12;
+
 fn main() -> ExitCode {
     let options = options();
     let mut random = Random::new(options.seed);
     let mut tally = Tally::default();
+    for _ in 0..LARGE {
+        let problem = lists::large(&mut random);
+        compare_search(&mut random, &mut tally, &problem);
+    }
     for list in 0..options.lists {
         let problem = lists::problem(&mut random);
         compare_search(&mut random, &mut tally, &problem);
