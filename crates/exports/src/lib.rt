@@ -4,7 +4,6 @@ ghost use Prim.Native.Nat.{_+_, _*_, _^_};
 ghost use Rattle.tasks.specs.Task.{rows};
 ghost use Rattle.rules.specs.Search.{search as searchOf};
 ghost use Rattle.exports.specs.Packed.{listed, SearchedAs};
-
 use tasks::TaskList;
 
 // The search of n tasks, each number in an array of its own, and four rates a task: verdict * 2^32 + tries.

@@ -115,5 +115,9 @@ module _ (board t l : List ℕ) (first slot core v r k : ℕ) (er : r ≡ rateOn
   -- a task that may stand there has its rate left
   pub rate-left : permittedOn board t l first slot core v ≡ true → k ≡ counterOn board slot v → r ≤ nth l k
   unfolding permittedOn
-  rate-left e ek = omega (arith, ap (nth l) ek, leb→le (rateOn board v core) (nth l (counterOn board slot v)) (every-holds
-      (ltb 0 (rateOn board v core) ∷ leb (rateOn board v core) (nth l (counterOn board slot v)) ∷ freeOn t first core (v + 1) ∷ []) (rw e tt) .1 .0))
+  rate-left e ek = omega (
+    arith,
+    ap (nth l) ek,
+    leb→le (rateOn board v core) (nth l (counterOn board slot v)) (every-holds
+        (ltb 0 (rateOn board v core) ∷ leb (rateOn board v core) (nth l (counterOn board slot v)) ∷ freeOn t first core (v + 1) ∷ []) (rw e tt) .1 .0),
+  )

@@ -174,21 +174,20 @@ module _ {P : Instance} {e : ℕ} {board : List ℕ} (small : Small P) (ready : 
           let fits = leb→le (rateOn board v core) (nth l (counterOn board slot v)) (p .1 .0) in
           test-cases (P .opens (suc v) slot)
           (λ o. rw (slot-is, core-is) (holds-every
-              (leb (suc v) (P .tasks) ∷ P .opens (suc v) slot ∷ ltb 0 (P .rate (suc v) core) ∷ free P (first + core) (nth t) (suc v)
-              ∷ leb (P .rate (suc v) core) (workLeft P (first + core) (nth t) (suc v) (P .job (suc v) slot)) ∷ [])
+          (leb (suc v) (P .tasks) ∷ P .opens (suc v) slot ∷ ltb 0 (P .rate (suc v) core) ∷ free P (first + core) (nth t) (suc v)
+          ∷ leb (P .rate (suc v) core) (workLeft P (first + core) (nth t) (suc v) (P .job (suc v) slot)) ∷ []) (
+            le→leb (suc v) (P .tasks) lv,
+            (
+              o,
               (
-                le→leb (suc v) (P .tasks) lv,
+                lt→ltb 0 (P .rate (suc v) core) (omega (arith, ready .rates v core lv lc)),
                 (
-                  o,
-                  (
-                    lt→ltb 0 (P .rate (suc v) core) (omega (arith, ready .rates v core lv lc)),
-                    (
-                      rw (free-is t (v + 1), add-one) at (p .1 .1 .0),
-                      (le→leb (P .rate (suc v) core) (workLeft P (first + core) (nth t) (suc v) (P .job (suc v) slot)) (omega (arith, ready .rates v core lv lc, left-open ls lv (first + core) (nth t) l lefts o)), tt),
-                    ),
-                  ),
+                  rw (free-is t (v + 1), add-one) at (p .1 .1 .0),
+                  (le→leb (P .rate (suc v) core) (workLeft P (first + core) (nth t) (suc v) (P .job (suc v) slot)) (omega (arith, ready .rates v core lv lc, left-open ls lv (first + core) (nth t) l lefts o)), tt),
                 ),
-              )))
+              ),
+            ),
+          )))
           (λ x. absurd (omega (arith, lefts .none-closed, ap (nth l) (counter-closed ls lv x .0))))
 
       -- and a permitted task is one that the arrays permit
@@ -196,12 +195,11 @@ module _ {P : Instance} {e : ℕ} {board : List ℕ} (small : Small P) (ready : 
       unfolding permittedOn permitted tests
       from-permitted h =
           let p = every-holds
-              (leb (suc v) (P .tasks) ∷ P .opens (suc v) slot ∷ ltb 0 (P .rate (suc v) core) ∷ free P (first + core) (nth t) (suc v)
-              ∷ leb (P .rate (suc v) core) (workLeft P (first + core) (nth t) (suc v) (P .job (suc v) slot)) ∷ []) (rw (slot-is, core-is) at h) in
+          (leb (suc v) (P .tasks) ∷ P .opens (suc v) slot ∷ ltb 0 (P .rate (suc v) core) ∷ free P (first + core) (nth t) (suc v)
+          ∷ leb (P .rate (suc v) core) (workLeft P (first + core) (nth t) (suc v) (P .job (suc v) slot)) ∷ []) (rw (slot-is, core-is) at h) in
           let pos = ltb→lt 0 (P .rate (suc v) core) (p .1 .1 .0) in
           let fits = leb→le (P .rate (suc v) core) _ (p .1 .1 .1 .1 .0) in
-          holds-every (ltb 0 (rateOn board v core) ∷ leb (rateOn board v core) (nth l (counterOn board slot v)) ∷ freeOn t first core (v + 1) ∷ [])
-          (
+          holds-every (ltb 0 (rateOn board v core) ∷ leb (rateOn board v core) (nth l (counterOn board slot v)) ∷ freeOn t first core (v + 1) ∷ []) (
             lt→ltb 0 (rateOn board v core) (omega (arith, ready .rates v core lv lc)),
             (
               le→leb (rateOn board v core) (nth l (counterOn board slot v)) (omega (arith, ready .rates v core lv lc, left-open ls lv (first + core) (nth t) l lefts (p .1 .0))),
@@ -257,7 +255,7 @@ module _ {P : Instance} {e : ℕ} {board : List ℕ} (small : Small P) (ready : 
             ready .rates v core lv lc,
             done-put t (v + 1) room (suc v) (P .job (suc v) slot),
             ap (share P (suc v) (P .job (suc v) slot) (first + core)) (add-one v),
-            rw core-is at (share-own P (suc v) (first + core) (rw slot-is o)) ,
+            rw core-is at (share-own P (suc v) (first + core) (rw slot-is o)),
             ap (λ s. share P (suc v) (P .job (suc v) s) (first + core) (suc v)) slot-is,
           )
 
