@@ -253,9 +253,9 @@ module _ (m : ℕ) (list : TaskList) (e L : ℕ) (sound : IsSound m (rows list))
 -- ---- what the search tells
 -- what the walk's number makes of the answer and the buffer, n cells long
 pub data Tells (n r : ℕ) (t buffer buffer′ : List ℕ) : Answer → Type 0 where
-  none : r < 4294967296 → buffer′ ≡ filled buffer 0 n (λ _. 0) → Tells n r t buffer buffer′ (record { verdict = 13; tries = r })
-  found : 4294967296 ≤ r → r < 8589934592 → buffer′ ≡ filled buffer 0 n (nth t) → Tells n r t buffer buffer′ (record { verdict = 0; tries = r - 4294967296 })
-  stopped : 8589934592 ≤ r → buffer′ ≡ filled buffer 0 n (λ _. 0) → Tells n r t buffer buffer′ (record { verdict = 14; tries = r - 8589934592 })
+  none : r < 4294967296 → buffer′ ≡ filled buffer 0 n (λ _. 0) → Tells n r t buffer buffer′ (record { verdict = 13; tries = r % 4294967296 })
+  found : 4294967296 ≤ r → r < 8589934592 → buffer′ ≡ filled buffer 0 n (nth t) → Tells n r t buffer buffer′ (record { verdict = 0; tries = r % 4294967296 })
+  stopped : 8589934592 ≤ r → buffer′ ≡ filled buffer 0 n (λ _. 0) → Tells n r t buffer buffer′ (record { verdict = 14; tries = r % 4294967296 })
 
 -- the first n cells 0
 cleared : (n : ℕ) (buffer : List ℕ) → n ≤ length buffer → filled buffer 0 n (λ _. 0) ≡ over (replicate n 0) buffer
@@ -267,7 +267,8 @@ told-end : (n r b : ℕ) (t l buffer : List ℕ) (x : Answer) (buffer′ : List 
 unfolding told toldAt
 told-end n r b t l buffer x buffer′ s h few long room (none small e) =
     let p = packed-nothing (s .end) (s .tries) r (h .answer) small in
-    rw (p .0) (λ i. record { verdict = 13; tries = sym (p .1) i; buffer = (e ∙ cleared n buffer room) i })
+    let whole : r % 4294967296 ≡ s .tries = omega (arith, p .1) in
+    rw (p .0) (λ i. record { verdict = 13; tries = whole i; buffer = (e ∙ cleared n buffer room) i })
 told-end n r b t l buffer x buffer′ s h few long room (found big small e) =
     let p = packed-found (s .end) (s .tries) r (h .answer) (omega (arith, h .most)) big small in
     rw (p .0) (λ i. record { verdict = 0; tries = sym (p .1) i; buffer = same i })
@@ -277,10 +278,6 @@ told-end n r b t l buffer x buffer′ s h few long room (found big small e) =
 told-end n r b t l buffer x buffer′ s h few long room (stopped big e) =
     let p = packed-stopped (s .end) (s .tries) r (h .answer) (omega (arith, h .most)) big in
     rw (p .0) (λ i. record { verdict = 14; tries = sym (p .1) i; buffer = (e ∙ cleared n buffer room) i })
-
--- what a stopped walk's number is above 2 ^ 33 are its tries
-pub stopped-tries : {r b : ℕ} {board t₀ l₀ t l : List ℕ} → Ran board b 0 0 0 t₀ l₀ 0 r t l → b < 4294967296 → 8589934592 ≤ r → r - 8589934592 < 4294967296
-stopped-tries ran few big = let h = ran .leaves in omega (arith, packed-stopped _ _ _ (h .answer) (omega (arith, h .most)) big .1, h .most)
 
 -- the walk on the filled arrays tells what the engine's walk does under the limit
 pub walk-told : (m : ℕ) (list : TaskList) (e b L : ℕ) (buffer : List ℕ) → IsSound m (rows list) → L ≡ tableLength (rows list) → L * m ≤ length buffer → b < 4294967296

@@ -1,3 +1,4 @@
 pub mod FillLaws
 pub mod BoardLaws
 pub mod AnswerLaws
+pub mod Only

@@ -290,24 +290,25 @@ fn walk_list(list: TaskList, m: u8, engine: u8, limit: u32, len: Slots, table: &
     fill_left(&mut left, work);
     let n = len.0 as usize * m as usize;
     let w = walk::cell(&mut cells, &board, 0, 0, 0, 0, &mut left, limit);
+    let tries = (w % walk::FOUND) as u32;
     if w < walk::FOUND {
         clear(table, n);
         return Answer {
             verdict: NONE,
-            tries: w as u32,
+            tries,
         };
     }
     if w < walk::STOPPED {
         hand_over(table, n, &cells);
         return Answer {
             verdict: FOUND,
-            tries: (w - walk::FOUND) as u32,
+            tries,
         };
     }
     clear(table, n);
     Answer {
         verdict: STOPPED,
-        tries: (w - walk::STOPPED) as u32,
+        tries,
     }
 }
 

@@ -1,6 +1,6 @@
 -- The walk on its arrays, one turn of its loop at a time: what is still to be tried gives what the whole walk gives.
 -- Assumes nothing.
-use Prim.Native.Nat.{ℕ, zero, suc, _+_, _*_, _-_, _≤_, _<_}
+use Prim.Native.Nat.{ℕ, zero, suc, _+_, _*_, _-_, _%_, _≤_, _<_}
 use native.Mathlib.Omega.{arith}
 use native.Mathlib.Nat.{add-zero, mul-le-mul-right, mul-le-mul-left}
 use mathlib.Core.Path.{_≡_, refl, sym, ap, subst, transport, _∙_}
@@ -55,14 +55,14 @@ packed-nothing Nothing u r h l = (refl, sym h)
 packed-nothing Stopped u r h l = absurd (omega arith)
 
 -- a table is found
-pub packed-found : (e : End) (u r : ℕ) → r ≡ packed e u → u < 4294967296 → 4294967296 ≤ r → r < 8589934592 → (e ≡ Found) × (u ≡ r - 4294967296)
+pub packed-found : (e : End) (u r : ℕ) → r ≡ packed e u → u < 4294967296 → 4294967296 ≤ r → r < 8589934592 → (e ≡ Found) × (u ≡ r % 4294967296)
 unfolding packed
 packed-found Found u r h s f l = (refl, omega arith)
 packed-found Nothing u r h s f l = absurd (omega arith)
 packed-found Stopped u r h s f l = absurd (omega arith)
 
 -- the walk is stopped
-pub packed-stopped : (e : End) (u r : ℕ) → r ≡ packed e u → u < 4294967296 → 8589934592 ≤ r → (e ≡ Stopped) × (u ≡ r - 8589934592)
+pub packed-stopped : (e : End) (u r : ℕ) → r ≡ packed e u → u < 4294967296 → 8589934592 ≤ r → (e ≡ Stopped) × (u ≡ r % 4294967296)
 unfolding packed
 packed-stopped Found u r h s f = absurd (omega arith)
 packed-stopped Nothing u r h s f = absurd (omega arith)

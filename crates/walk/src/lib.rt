@@ -174,7 +174,7 @@ fn take_back(left: &mut [u16; 32768], counter: usize, had: u16)
     left[counter] = had;
 }
 
-// Tries each value in the cell of a core, in order: the tasks, and then idle.
+// Tries each value in the cell of a core, in order: the tasks, and then idle. What no call changes comes last.
 pub fn cell(
     table: &mut [u8; 4096],
     board: &[u16; 16483],

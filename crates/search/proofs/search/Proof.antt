@@ -22,7 +22,7 @@ refused-requires-2 : tie.Need-refused-requires-2
 refused-requires-2 c κs = search needs
 
 returns : tie.Need-returns
-returns c = engine-refused _ _ _ _ _ _ _ (c .before .before .before .before .before .test-list .ensures) (c .before .before .before .soundness2 .given .1) _ (c .before .if1 .taken) (c .refused2 .ensures)
+returns c = engine-refused _ _ _ _ _ _ _ (c .before .before .before .before .before .test-list .ensures) (c .before .before .before .soundness2 .given .1) _ (omega (arith, c .before .if1 .taken)) (c .refused2 .ensures)
 
 cast-if2 : tie.Need-cast-if2
 cast-if2 c = search needs
@@ -34,7 +34,7 @@ refused-requires-3 : tie.Need-refused-requires-3
 refused-requires-3 c κs = search needs
 
 returns-2 : tie.Need-returns-2
-returns-2 c = buffer-refused _ _ _ _ _ _ _ (c .before .before .before .before .before .before .before .test-list .ensures) (c .before .before .before .before .before .soundness2 .given .1) _ (c .before .before .before .if1 .left) (c .before .if2 .taken) (c .refused3 .ensures)
+returns-2 c = buffer-refused _ _ _ _ _ _ _ (c .before .before .before .before .before .before .before .test-list .ensures) (c .before .before .before .before .before .soundness2 .given .1) _ (c .before .before .before .if1 .left) (omega (arith, c .before .if2 .taken)) (c .refused3 .ensures)
 
 walk-list-requires : tie.Need-walk-list-requires
 walk-list-requires c κs = let h = told-sound _ _ _ _ (c .before .before .before .before .before .before .before .test-list .ensures) (c .before .before .before .before .before .soundness2 .given .1) in (h .0, h .1, search needs, search needs)

@@ -1,8 +1,9 @@
 -- `search::walk_list` meets its contract: the walk runs on the board and the counters of a sound list, and its end is told.
 -- Assumes nothing.
 use borrow.Author.Needs.{needs}
+use native.Mathlib.Omega.{arith}
 use Rattle.search.proofs.FillLaws.{sound-fits}
-use Rattle.search.proofs.BoardLaws.{none, found, stopped, stopped-tries, walk-told}
+use Rattle.search.proofs.BoardLaws.{none, found, stopped, walk-told}
 use Rattle.search.proofs.AnswerLaws.{few-cells, board-ready}
 use Rattle.search.proofs.walk_list.Statement.{statement}
 use Rattle.search.proofs.walk_list.Tie as tie
@@ -22,11 +23,11 @@ mul-n c = search needs
 cell-requires : tie.Need-cell-requires
 cell-requires c κs = let h = board-ready _ _ _ _ _ (c .before .before .before .before .before .before .before .before .before .before .pre .0) (c .before .before .before .before .before .before .before .before .before .before .pre .1) (c .before .before .before .before .before .before .before .fill-board .ensures) in (h .0, h .1, search needs)
 
+cast-tries : tie.Need-cast-tries
+cast-tries c = search needs
+
 clear-requires : tie.Need-clear-requires
 clear-requires c κs = search needs
-
-cast-t25 : tie.Need-cast-t25
-cast-t25 c = search needs
 
 same-length : tie.Need-same-length
 same-length c = search needs
@@ -35,10 +36,7 @@ returns : tie.Need-returns
 returns c = walk-told _ _ _ _ _ _ (c .before .before .before .before .before .before .before .before .before .before .before .before .before .before .before .before .pre .0) (c .before .before .before .before .before .before .before .before .before .before .before .before .before .before .before .before .pre .1) (c .before .before .before .before .before .before .before .before .before .before .before .before .before .before .before .before .pre .3) (c .before .before .before .before .before .before .before .before .before .before .before .before .before .before .before .before .fits .limit .fits) _ _ (c .before .before .before .before .before .before .before .before .before .before .before .before .before .fill-board .ensures) (c .before .before .before .before .before .before .before .before .before .before .fill-left .ensures) _ _ _ (c .before .before .before .before .before .cell .ensures) _ _ (none (c .before .before .before .before .if1 .taken) (c .before .before .clear .ensures))
 
 hand-over-requires : tie.Need-hand-over-requires
-hand-over-requires c κs = (few-cells _ _ _ (c .before .before .before .before .before .before .before .before .before .before .before .before .before .before .before .pre .0) (c .before .before .before .before .before .before .before .before .before .before .before .before .before .before .before .pre .1), search needs)
-
-cast-t31 : tie.Need-cast-t31
-cast-t31 c = search needs
+hand-over-requires c κs = (omega (arith, few-cells _ _ _ (c .before .before .before .before .before .before .before .before .before .before .before .before .before .before .before .pre .0) (c .before .before .before .before .before .before .before .before .before .before .before .before .before .before .before .pre .1)), search needs)
 
 same-length-2 : tie.Need-same-length-2
 same-length-2 c = search needs
@@ -48,9 +46,6 @@ returns-2 c = walk-told _ _ _ _ _ _ (c .before .before .before .before .before .
 
 clear-requires-2 : tie.Need-clear-requires-2
 clear-requires-2 c κs = search needs
-
-cast-t35 : tie.Need-cast-t35
-cast-t35 c = record { fits = stopped-tries (c .before .before .before .before .before .before .cell .ensures) (c .before .before .before .before .before .before .before .before .before .before .before .before .before .before .before .before .before .fits .limit .fits) (c .before .before .before .before .if2 .left) }
 
 same-length-3 : tie.Need-same-length-3
 same-length-3 c = search needs
@@ -67,15 +62,13 @@ walk-list-spec =
     cast-n
     mul-n
     cell-requires
+    cast-tries
     clear-requires
-    cast-t25
     same-length
     returns
     hand-over-requires
-    cast-t31
     same-length-2
     returns-2
     clear-requires-2
-    cast-t35
     same-length-3
     returns-3)
