@@ -14,7 +14,7 @@ use Rattle.tasks.specs.declared.TaskList.{TaskList}
 use Rattle.tasks.specs.declared.Soundness.{Soundness}
 use Rattle.tasks.specs.declared.Soundness.the-variants.{Sound, Refused}
 use Rattle.tasks.specs.Task.{rows}
-use Rattle.tasks.specs.Refusal.{unless, orNext, tableLength, IsSound, soundnessOf}
+use Rattle.tasks.specs.Refusal.{unless, tableLength, IsSound, soundnessOf}
 use Rattle.tasks.specs.Instance.{instanceOf}
 use Rattle.tasks.proofs.SoundLaws.{sound-list, soundness-sound, soundness-refused}
 use Rattle.tasks.proofs.AnswerLaws.{or-first, or-next}

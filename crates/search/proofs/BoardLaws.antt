@@ -5,9 +5,9 @@ use native.Mathlib.Omega.{arith}
 use native.Mathlib.Nat.{div-le-self, zero-add, mul-le-mul}
 use mathlib.Core.Path.{_≡_, refl, sym, ap, ap₂, subst, _∙_}
 use mathlib.Core.Logic.{_≢_}
-use mathlib.Core.Bool.{Bool, true, false, cond, _&&_}
-use mathlib.Core.List.{List, [], _∷_}
-use lib.Dec.{T, ltb, eqb}
+use mathlib.Core.Bool.{_&&_}
+use mathlib.Core.List.{List}
+use lib.Dec.{eqb}
 use borrow.Author.Tests.{lt-ltb}
 use lib.ListN.{length, take, drop, set, replicate, length-replicate, getD-replicate, length-set}
 use lib.Arith.{digits-div, digits-mod}
@@ -21,16 +21,16 @@ use Rattle.tasks.specs.declared.Task.{Task}
 use Rattle.tasks.specs.declared.TaskList.{TaskList}
 use Rattle.tasks.specs.Task.{task, rate, taskAt, rows}
 use Rattle.tasks.specs.Refusal.{IsSound, tableLength}
-use Rattle.tasks.specs.Window.{isJobs, Cyclic}
-use Rattle.tasks.specs.Instance.{Instance, jobSlot, jobEnd, instanceOf}
-use Rattle.tasks.proofs.SoundLaws.{rows-length, rows-task, SoundList, sound-list, Whole, length-whole, sound-cyclic, instance-regular}
+use Rattle.tasks.specs.Window.{isJobs}
+use Rattle.tasks.specs.Instance.{jobSlot, instanceOf}
+use Rattle.tasks.proofs.SoundLaws.{rows-length, rows-task, SoundList, sound-list, length-whole, sound-cyclic, instance-regular}
 use Rattle.tasks.proofs.WindowLaws.{job-slot, highest-passes}
-use Rattle.table.specs.Table.{cells, done}
+use Rattle.table.specs.Table.{done}
 use Rattle.rules.specs.Rules.{evenRates, twin}
 use Rattle.rules.specs.Walk.{limited}
 use Rattle.rules.specs.Right.{ownInstance}
 use Rattle.rules.specs.Search.{walked, told}
-use Rattle.walk.specs.Machine.{State, packed, tasksOn, coresOn, slotsOn, cellsOn, walkOn, Fits, Leaves, Ran}
+use Rattle.walk.specs.Machine.{State, tasksOn, coresOn, slotsOn, cellsOn, walkOn, Fits, Leaves, Ran}
 use Rattle.walk.specs.Ready.{Small, counterOf, entryOf, isQuick, Ready, Lefts}
 use Rattle.walk.proofs.TurnLaws.{packed-nothing, packed-found, packed-stopped}
 use Rattle.walk.proofs.RefineLaws.{toldAt, Shows, shows-same, walk-limited}

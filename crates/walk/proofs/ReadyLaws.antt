@@ -1,30 +1,30 @@
 -- What the walk's tests on its arrays say of the instance that the arrays are for.
 -- Assumes nothing.
-use Prim.Native.Nat.{ℕ, zero, suc, _+_, _*_, _-_, _/_, _%_, _≤_, _<_, pred}
+use Prim.Native.Nat.{ℕ, suc, _+_, _*_, _-_, _/_, _%_, _≤_, _<_}
 use native.Mathlib.Omega.{arith}
 use native.Mathlib.Numerals.{add-one}
 use native.Mathlib.Decide.{ℕ-discrete}
 use native.Mathlib.Nat.{suc-inj, eq-of-mul-eq-mul-right, mul-mod-left}
 use mathlib.Core.Path.{_≡_, refl, sym, ap, ap₂, _∙_}
 use mathlib.Core.Logic.{_≢_}
-use mathlib.Core.Bool.{Bool, true, false, cond, not, _&&_}
+use mathlib.Core.Bool.{Bool, true, false, cond, not}
 use mathlib.Core.List.{List, [], _∷_}
 use lib.Arith.{digits-div, digits-mod}
-use lib.Dec.{T, leb, ltb, eqb, leb→le, le→leb, ltb→lt, lt→ltb, eqb→eq, not-T, T-not}
+use lib.Dec.{T, leb, ltb, eqb, leb→le, le→leb, ltb→lt, lt→ltb, eqb→eq, T-not}
 use lib.ListN.{length, set}
 use lib.Seq.{getD-set-same, getD-set-other}
 use borrow.Author.Tests.{eq-eqb, ne-eqb}
 use Rattle.laws.specs.Sum.{gate, sum}
-use Rattle.laws.specs.Tests.{every, all, imp}
+use Rattle.laws.specs.Tests.{all}
 use Rattle.laws.specs.Lists.{nth}
 use Rattle.laws.proofs.TestLaws.{every-holds, holds-every, all-at, at-all, all-same, all-true, imp-use, imp-make}
-use Rattle.tasks.specs.Instance.{Instance, jobSlot, jobEnd, Regular}
-use Rattle.table.specs.Table.{cells, slotOf, coreOf, beside, share, done, workLeft, free}
-use Rattle.table.proofs.JobLaws.{job-slot, slot-job}
+use Rattle.tasks.specs.Instance.{Instance, jobEnd}
+use Rattle.table.specs.Table.{slotOf, coreOf, beside, share, done, workLeft, free}
+use Rattle.table.proofs.JobLaws.{slot-job}
 use Rattle.table.proofs.TableLaws.{done-same}
 use Rattle.table.proofs.ShareLaws.{share-none, share-own}
 use Rattle.rules.specs.Rules.{tests, permitted, settled, closed}
-use Rattle.walk.specs.Machine.{entryOn, rateOn, tasksOn, counterOn, freeOn, permittedOn, settledOn, closesOn}
+use Rattle.walk.specs.Machine.{entryOn, rateOn, counterOn, freeOn, permittedOn, settledOn, closesOn}
 use Rattle.walk.specs.Ready.{Small, counterOf, closedCounter, entryOf, Ready, Lefts}
 
 -- two tests that pass together are the same

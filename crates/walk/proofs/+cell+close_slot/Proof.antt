@@ -3,11 +3,11 @@
 use borrow.Author.Needs.{needs}
 use native.Mathlib.Omega.{arith}
 use mathlib.Core.Logic.{⊎-elim}
-use mathlib.Core.Path.{_≡_, refl, sym, ap, _∙_}
+use mathlib.Core.Path.{sym, _∙_}
 use Rattle.walk.specs.Machine.{cellsOn}
 use Rattle.walk.proofs.MachineLaws.{rate-left}
 use Rattle.walk.proofs.TurnLaws.{in-table, upto-table, in-cells, next-slot, Turn, turn-same, begins, skips, bars, stops, backs, ends, idle-barred, idle-stops, idles, goes-on, starved, founds, next-slots}
-use Prim.Native.Nat.{ℕ, _+_, _*_, _-_, _<_, _≤_}
+use Prim.Native.Nat.{ℕ, _+_, _*_, _-_, _<_}
 use borrow.Fn.Kinds.{In}
 use borrow.Fn.PlainCycle.{Measures, is, falls, and}
 use Rattle.walk.proofs.cell.Reads as cell
