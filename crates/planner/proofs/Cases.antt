@@ -56,8 +56,8 @@ reply s = searched (s .verdict) (s .tries) (s .buffer)
 -- what the definitions answer
 answer : Question → Reply
 unfolding reply gate sum tab over seek euclid gcdOf lcmOf lcmsOf within unless orNext ratesFit taskRefusal listRefusal tableLength refusal place highest instanceOf
-  share done free kindOf cellKind jobKind jobFault fault check walk tests permitted settled closed evenRates twin idleTried ruleA ruleB quickly
-  told searchRefusal search
+    share done free kindOf cellKind jobKind jobFault fault check walk tests permitted settled closed evenRates twin idleTried ruleA ruleB quickly
+    told searchRefusal search
 answer (searching m ts e b room) = reply (search m ts e b (replicate room 77))
 answer (sounding m ts) = sounded (refusal m ts) (tableLength ts)
 answer (checking m ts t) = told-of (check m ts t)

@@ -13,33 +13,19 @@ use Rattle.tasks.specs.declared.Task.{Task}
 use Rattle.tasks.specs.declared.TaskList.{TaskList}
 use Rattle.tasks.specs.declared.Soundness.{Soundness}
 use Rattle.tasks.specs.declared.Soundness.the-variants.{Sound, Refused}
-use Rattle.tasks.specs.Task.{task, taskAt, rows}
+use Rattle.tasks.specs.Task.{rows}
 use Rattle.tasks.specs.Refusal.{unless, tableLength, IsSound, soundnessOf}
 use Rattle.tasks.specs.Instance.{instanceOf}
-use Rattle.tasks.proofs.SoundLaws.{rows-length, rows-task, SoundList, sound-list, length-whole, sound-cyclic, soundness-sound, soundness-refused}
+use Rattle.tasks.proofs.SoundLaws.{sound-list, soundness-sound, soundness-refused}
 use Rattle.tasks.proofs.AnswerLaws.{or-first, or-next}
 use Rattle.rules.specs.Search.{Searched, toldUnless, searchRefusal, search}
 use Rattle.rules.proofs.Told.{search-told}
 use Rattle.walk.specs.Machine.{Fits, coresOn}
 use Rattle.search.specs.declared.Answer.{Answer}
-use Rattle.search.specs.Board.{Fit, boardOf, refusedBy, walkTold, toldOf}
+use Rattle.search.specs.Board.{boardOf, refusedBy, walkTold, toldOf}
 use Rattle.search.proofs.BoardLaws.{board-fits, board-cores}
 
 -- ---- what the walk asks
--- what a sound list has for the board
-pub sound-fits : (list : TaskList) (m L : ℕ) → IsSound m (rows list) → L ≡ tableLength (rows list)
-    → (list .n ≤ 16) × (m ≤ 4) × (L ≤ 1024) × ((k : ℕ) → k < list .n → Fit L (taskAt list k))
-sound-fits list m L s e =
-    let sound = sound-list m (rows list) s in
-    (omega (arith, rows-length list), sound .few-cores, omega arith, λ k l. rw (← rows-task list k l, e) (task-fits sound (suc k) (omega arith) (omega (arith, rows-length list))))
-  where
-    task-fits : SoundList m (rows list) → (i : ℕ) → i ≢ 0 → i ≤ length (rows list) → Fit (tableLength (rows list)) (task (rows list) i)
-    task-fits sound i x l = record {
-      few-slots = sound .few-slots;
-      offset-le = sound .in-range i x l .offset-le;
-      cyclic = sound-cyclic sound (length-whole sound) i x l;
-    }
-
 -- the cells of a sound list's table
 pub few-cells : (m : ℕ) (ts : List Task) (L : ℕ) → IsSound m ts → L ≡ tableLength ts → L * m ≤ 4096
 few-cells m ts L s e = let sound = sound-list m ts s in mul-le-mul {n₂ = 1024} {m₂ = 4} (omega arith) (sound .few-cores)

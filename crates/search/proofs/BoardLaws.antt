@@ -5,9 +5,9 @@ use native.Mathlib.Omega.{arith}
 use native.Mathlib.Nat.{div-le-self, zero-add, mul-le-mul}
 use mathlib.Core.Path.{_≡_, refl, sym, ap, ap₂, subst, _∙_}
 use mathlib.Core.Logic.{_≢_}
-use mathlib.Core.Bool.{Bool, true, false, cond, _&&_}
-use mathlib.Core.List.{List, [], _∷_}
-use lib.Dec.{T, ltb, eqb}
+use mathlib.Core.Bool.{_&&_}
+use mathlib.Core.List.{List}
+use lib.Dec.{eqb}
 use borrow.Author.Tests.{lt-ltb}
 use lib.ListN.{length, take, drop, set, replicate, length-replicate, getD-replicate, length-set}
 use lib.Arith.{digits-div, digits-mod}
@@ -21,19 +21,18 @@ use Rattle.tasks.specs.declared.Task.{Task}
 use Rattle.tasks.specs.declared.TaskList.{TaskList}
 use Rattle.tasks.specs.Task.{task, rate, taskAt, rows}
 use Rattle.tasks.specs.Refusal.{IsSound, tableLength}
-use Rattle.tasks.specs.Window.{isJobs, Cyclic}
-use Rattle.tasks.specs.Instance.{Instance, jobSlot, jobEnd, instanceOf}
-use Rattle.tasks.proofs.SoundLaws.{rows-length, rows-task, SoundList, sound-list, Whole, length-whole, sound-cyclic, instance-regular}
+use Rattle.tasks.specs.Window.{isJobs}
+use Rattle.tasks.specs.Instance.{jobSlot, instanceOf}
+use Rattle.tasks.proofs.SoundLaws.{rows-length, rows-task, SoundList, sound-list, length-whole, sound-cyclic, instance-regular}
 use Rattle.tasks.proofs.WindowLaws.{job-slot, highest-passes}
-use Rattle.table.specs.Table.{cells, done}
+use Rattle.table.specs.Table.{done}
 use Rattle.rules.specs.Rules.{evenRates, twin}
 use Rattle.rules.specs.Walk.{limited}
 use Rattle.rules.specs.Right.{ownInstance}
 use Rattle.rules.specs.Search.{walked, told}
-use Rattle.walk.specs.declared.Walked.{Walked}
-use Rattle.walk.specs.declared.End.the-variants.{Found, Nothing, Stopped}
-use Rattle.walk.specs.Machine.{tasksOn, coresOn, slotsOn, cellsOn, state, walkOn, Fits, Ran}
+use Rattle.walk.specs.Machine.{State, tasksOn, coresOn, slotsOn, cellsOn, walkOn, Fits, Leaves, Ran}
 use Rattle.walk.specs.Ready.{Small, counterOf, entryOf, isQuick, Ready, Lefts}
+use Rattle.walk.proofs.TurnLaws.{packed-nothing, packed-found, packed-stopped}
 use Rattle.walk.proofs.RefineLaws.{toldAt, Shows, shows-same, walk-limited}
 use Rattle.search.specs.declared.Answer.{Answer}
 use Rattle.search.specs.Board.{Fit, entryFor, gridEntry, evenPair, evenWith, rowEven, evenMark, coresTwin, twinMark, workAt, boardOf, walkTold, toldOf}
@@ -252,36 +251,43 @@ module _ (m : ℕ) (list : TaskList) (e L : ℕ) (sound : IsSound m (rows list))
   board-cores = rw eL (board-ready list (sound-list m (rows list) sound) e .cores)
 
 -- ---- what the search tells
--- what the end of the walk makes of the answer and the buffer, n cells long
-pub data Tells (n : ℕ) (r : Walked) (t buffer buffer′ : List ℕ) : Answer → Type 0 where
-  found : r .end ≡ Found → buffer′ ≡ filled buffer 0 n (nth t) → Tells n r t buffer buffer′ (record { verdict = 0; tries = r .tries })
-  none : r .end ≡ Nothing → buffer′ ≡ filled buffer 0 n (λ _. 0) → Tells n r t buffer buffer′ (record { verdict = 13; tries = r .tries })
-  stopped : r .end ≡ Stopped → buffer′ ≡ filled buffer 0 n (λ _. 0) → Tells n r t buffer buffer′ (record { verdict = 14; tries = r .tries })
+-- what the walk's number makes of the answer and the buffer, n cells long
+pub data Tells (n r : ℕ) (t buffer buffer′ : List ℕ) : Answer → Type 0 where
+  none : r < 4294967296 → buffer′ ≡ filled buffer 0 n (λ _. 0) → Tells n r t buffer buffer′ (record { verdict = 13; tries = r % 4294967296 })
+  found : 4294967296 ≤ r → r < 8589934592 → buffer′ ≡ filled buffer 0 n (nth t) → Tells n r t buffer buffer′ (record { verdict = 0; tries = r % 4294967296 })
+  stopped : 8589934592 ≤ r → buffer′ ≡ filled buffer 0 n (λ _. 0) → Tells n r t buffer buffer′ (record { verdict = 14; tries = r % 4294967296 })
 
 -- the first n cells 0
 cleared : (n : ℕ) (buffer : List ℕ) → n ≤ length buffer → filled buffer 0 n (λ _. 0) ≡ over (replicate n 0) buffer
 cleared n buffer room = filled-over n buffer (λ _. 0) room ∙ ap (λ s. over s buffer) (tab-replicate n 0)
 
--- an end, told
-told-end : (n : ℕ) (r : Walked) (t buffer : List ℕ) (x : Answer) (buffer′ : List ℕ) → n ≤ length t → n ≤ length buffer → Tells n r t buffer buffer′ x
-    → toldOf x buffer′ ≡ told n buffer (toldAt (r .end) n 0 t (r .tries))
+-- a walk's number, told
+told-end : (n r b : ℕ) (t l buffer : List ℕ) (x : Answer) (buffer′ : List ℕ) (s : State) → Leaves b s r t l → b < 4294967296 → n ≤ length t → n ≤ length buffer
+    → Tells n r t buffer buffer′ x → toldOf x buffer′ ≡ told n buffer (toldAt (s .end) n 0 (s .table) (s .tries))
 unfolding told toldAt
-told-end n r t buffer x buffer′ long room (found e h) = rw e (λ i. record { verdict = 0; tries = r .tries; buffer = same i })
+told-end n r b t l buffer x buffer′ s h few long room (none small e) =
+    let p = packed-nothing (s .end) (s .tries) r (h .answer) small in
+    let whole : r % 4294967296 ≡ s .tries = omega (arith, p .1) in
+    rw (p .0) (λ i. record { verdict = 13; tries = whole i; buffer = (e ∙ cleared n buffer room) i })
+told-end n r b t l buffer x buffer′ s h few long room (found big small e) =
+    let p = packed-found (s .end) (s .tries) r (h .answer) (omega (arith, h .most)) big small in
+    rw (p .0) (λ i. record { verdict = 0; tries = sym (p .1) i; buffer = same i })
   where
-    same : buffer′ ≡ over (take (n - 0) (drop 0 t)) buffer
-    same = let whole : n ≡ n - 0 = omega arith in h ∙ filled-over n buffer (nth t) room ∙ ap (λ s. over s buffer) (tab-take n t long ∙ ap (λ k. take k t) whole)
-told-end n r t buffer x buffer′ long room (none e h) = rw e (λ i. record { verdict = 13; tries = r .tries; buffer = (h ∙ cleared n buffer room) i })
-told-end n r t buffer x buffer′ long room (stopped e h) = rw e (λ i. record { verdict = 14; tries = r .tries; buffer = (h ∙ cleared n buffer room) i })
+    same : buffer′ ≡ over (take (n - 0) (drop 0 (s .table))) buffer
+    same = let whole : n ≡ n - 0 = omega arith in e ∙ filled-over n buffer (nth t) room ∙ ap (λ s. over s buffer) (tab-take n t long ∙ (λ i. take (whole i) (h .table i)))
+told-end n r b t l buffer x buffer′ s h few long room (stopped big e) =
+    let p = packed-stopped (s .end) (s .tries) r (h .answer) (omega (arith, h .most)) big in
+    rw (p .0) (λ i. record { verdict = 14; tries = sym (p .1) i; buffer = (e ∙ cleared n buffer room) i })
 
 -- the walk on the filled arrays tells what the engine's walk does under the limit
-pub walk-told : (m : ℕ) (list : TaskList) (e b L : ℕ) (buffer : List ℕ) → IsSound m (rows list) → L ≡ tableLength (rows list) → L * m ≤ length buffer
+pub walk-told : (m : ℕ) (list : TaskList) (e b L : ℕ) (buffer : List ℕ) → IsSound m (rows list) → L ≡ tableLength (rows list) → L * m ≤ length buffer → b < 4294967296
     → (board left : List ℕ) → board ≡ boardOf list m e L (replicate 16483 0) → left ≡ filled (replicate 32768 0) 0 16384 (workAt (list .work))
-    → (r : Walked) (t l : List ℕ) → Ran board b 0 0 0 (replicate 4096 0) left 0 r t l
+    → (r : ℕ) (t l : List ℕ) → Ran board b 0 0 0 (replicate 4096 0) left 0 r t l
     → (x : Answer) (buffer′ : List ℕ) → Tells (L * m) r t buffer buffer′ x → toldOf x buffer′ ≡ walkTold m (rows list) e b buffer
 unfolding walkTold instanceOf
-walk-told m list e b L buffer sound eL room board left eb el r t l ran x buffer′ tells =
-    told-end (L * m) r t buffer x buffer′ (rw (shows .long) (rw (length-replicate {A = ℕ} 4096 0) few)) room tells
-    ∙ (λ i. told (eL i * m) buffer (toldAt (r .end) (eL i * m) 0 t (r .tries)))
+walk-told m list e b L buffer sound eL room limited-b board left eb el r t l ran x buffer′ tells =
+    told-end (L * m) r b t l buffer x buffer′ _ (ran .leaves) limited-b (rw (ran .leaves .table) (rw (shows .long) (rw (length-replicate {A = ℕ} 4096 0) few))) room tells
+    ∙ ap (λ k. told (k * m) buffer (toldAt (end .end) (k * m) 0 (end .table) (end .tries))) eL
     ∙ ap (told (tableLength (rows list) * m) buffer) (shows .answer)
   where
     s : SoundList m (rows list)
@@ -296,8 +302,12 @@ walk-told m list e b L buffer sound eL room board left eb el r t l ran x buffer�
     size : cellsOn board - (0 + 0) ≡ tableLength (rows list) * m
     size = omega (arith, ap₂ (λ a b. a * b) (ready .slots) (ready .cores))
 
-    shows : Shows b (tableLength (rows list) * m) 0 (replicate 4096 0) left (state (r .end) t l (r .tries)) (limited b (walked e (ownInstance m (rows list))))
-    shows = shows-same (ran .is ∙ ap (λ k. walkOn k board b 0 0 0 (replicate 4096 0) left 0) size) refl
+    -- where the walk ends
+    end : State
+    end = walkOn (cellsOn board - (0 + 0)) board b 0 0 0 (replicate 4096 0) left 0
+
+    shows : Shows b (tableLength (rows list) * m) 0 (replicate 4096 0) left end (limited b (walked e (ownInstance m (rows list))))
+    shows = shows-same (ap (λ k. walkOn k board b 0 0 0 (replicate 4096 0) left 0) size) refl
         (walk-limited (instance-small list s) e b board ready (replicate 4096 0) left
         (subst (Lefts (ownInstance m (rows list)) 0 (nth (replicate 4096 0))) (sym el) (lefts-start list s e (replicate 4096 0)))
         (rw (length-replicate {A = ℕ} 4096 0) (omega (arith, few, ap (λ n. n * m) eL)))

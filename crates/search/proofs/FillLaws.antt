@@ -8,7 +8,7 @@ use mathlib.Core.List.{List}
 use native.Mathlib.Omega.{arith}
 use native.Mathlib.Nat.{zero-add, mul-le-mul-left}
 use lib.Dec.{eqb}
-use lib.ListN.{set}
+use lib.ListN.{length, set}
 use borrow.Author.Tests.{lt-ltb, le-ltb, eq-eqb, ne-eqb}
 use Rattle.laws.specs.Sum.{gate}
 use Rattle.laws.specs.Tests.{all}
@@ -19,9 +19,11 @@ use Rattle.tasks.specs.declared.Task.{Task}
 use Rattle.tasks.specs.declared.TaskList.{TaskList}
 use Rattle.tasks.specs.declared.Window.{Window}
 use Rattle.tasks.specs.declared.Window.the-variants.{Open, Closed}
-use Rattle.tasks.specs.Task.{taskAt}
+use Rattle.tasks.specs.Task.{task, taskAt, rows}
+use Rattle.tasks.specs.Refusal.{IsSound, tableLength}
 use Rattle.tasks.specs.Window.{isOpen, jobAt, lastSlot, openIf, windowAt}
 use Rattle.tasks.proofs.WindowLaws.{pos-T, job-lt}
+use Rattle.tasks.proofs.SoundLaws.{rows-length, rows-task, SoundList, sound-list, length-whole, sound-cyclic}
 use Rattle.walk.specs.Ready.{isQuick}
 use Rattle.search.specs.Board.{Fit, entryFor, gridEntry, evenPair, rowEven, evenMark, twinMark, boardOf}
 
@@ -112,14 +114,14 @@ module _ (list : TaskList) (L x : ℕ) where
 -- ---- two rates
 module _ (x y : ℕ) where
   -- the one is 0
-  pub one-zero : x ≡ 0 → true ≡ evenPair x y
+  pub first-zero : x ≡ 0 → true ≡ evenPair x y
   unfolding evenPair
-  one-zero z = rw (le-ltb 0 x (omega arith))
+  first-zero z = rw (le-ltb 0 x (omega arith))
 
   -- the other is
-  pub other-zero : x ≢ 0 → y ≡ 0 → true ≡ evenPair x y
+  pub second-zero : x ≢ 0 → y ≡ 0 → true ≡ evenPair x y
   unfolding evenPair
-  other-zero a z = rw (lt-ltb 0 x (omega arith), le-ltb 0 y (omega arith))
+  second-zero a z = rw (lt-ltb 0 x (omega arith), le-ltb 0 y (omega arith))
 
   -- neither is
   pub both-positive : x ≢ 0 → y ≢ 0 → eqb x y ≡ evenPair x y
@@ -160,3 +162,17 @@ pub board-filled : (list : TaskList) (m e L : ℕ) (s grid rates evens twins : L
     → set (set (set twins 16480 (list .n)) 16481 m) 16482 L ≡ boardOf list m e L s
 unfolding boardOf
 board-filled list m e L s grid rates evens twins eg er ee et = rw (et, ee, er, eg)
+
+-- what a sound list has for the board
+pub sound-fits : (list : TaskList) (m L : ℕ) → IsSound m (rows list) → L ≡ tableLength (rows list)
+    → (list .n ≤ 16) × (m ≤ 4) × (L ≤ 1024) × ((k : ℕ) → k < list .n → Fit L (taskAt list k))
+sound-fits list m L s e =
+    let sound = sound-list m (rows list) s in
+    (omega (arith, rows-length list), sound .few-cores, omega arith, λ k l. rw (← rows-task list k l, e) (task-fits sound (suc k) (omega arith) (omega (arith, rows-length list))))
+  where
+    task-fits : SoundList m (rows list) → (i : ℕ) → i ≢ 0 → i ≤ length (rows list) → Fit (tableLength (rows list)) (task (rows list) i)
+    task-fits sound i x l = record {
+      few-slots = sound .few-slots;
+      offset-le = sound .in-range i x l .offset-le;
+      cyclic = sound-cyclic sound (length-whole sound) i x l;
+    }

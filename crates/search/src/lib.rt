@@ -14,7 +14,6 @@ use tasks::Soundness;
 use tasks::Task;
 use tasks::TaskList;
 use tasks::Window;
-use walk::End;
 
 const RATES: usize = 16384;
 
@@ -290,30 +289,26 @@ fn walk_list(list: TaskList, m: u8, engine: u8, limit: u32, len: Slots, table: &
     let work = list.work;
     fill_left(&mut left, work);
     let n = len.0 as usize * m as usize;
-    let w = walk::cell(&mut cells, &mut left, &board, 0, 0, 0, 0, limit);
-    let end = w.end;
-    match end {
-        End::Found => {
-            hand_over(table, n, &cells);
-            Answer {
-                verdict: FOUND,
-                tries: w.tries,
-            }
-        }
-        End::Nothing => {
-            clear(table, n);
-            Answer {
-                verdict: NONE,
-                tries: w.tries,
-            }
-        }
-        End::Stopped => {
-            clear(table, n);
-            Answer {
-                verdict: STOPPED,
-                tries: w.tries,
-            }
-        }
+    let w = walk::cell(&mut cells, &board, 0, 0, 0, 0, &mut left, limit);
+    let tries = (w % walk::FOUND) as u32;
+    if w < walk::FOUND {
+        clear(table, n);
+        return Answer {
+            verdict: NONE,
+            tries,
+        };
+    }
+    if w < walk::STOPPED {
+        hand_over(table, n, &cells);
+        return Answer {
+            verdict: FOUND,
+            tries,
+        };
+    }
+    clear(table, n);
+    Answer {
+        verdict: STOPPED,
+        tries,
     }
 }
 

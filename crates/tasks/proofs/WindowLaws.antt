@@ -121,7 +121,6 @@ highest-passes (suc n) g s l t = go (g n) refl (λ m. highest-passes n g s m t)
     go true e k = rw e tt
     go false e k = elim (ℕ-discrete s n) [ yes q ↦ absurd (rw (ap g q ∙ e) at t) | no x ↦ k (omega arith) ]
 
-
 -- a number that passes, and above which none does, is the highest
 pub highest-is : (n : ℕ) (g : ℕ → Bool) (s : ℕ) → s < n → Passes (g s) → ((t : ℕ) → s < t → t < n → Passes (g t) → ⊥) → highest n g ≡ s
 unfolding highest

@@ -1,10 +1,10 @@
 -- The tests of the walk on its arrays, as its loops find them.
 -- Assumes nothing.
-use Prim.Native.Nat.{ℕ, zero, suc, _+_, _*_, _/_, _%_, _≤_, _<_, max}
+use Prim.Native.Nat.{ℕ, zero, suc, _+_, _%_, _≤_, _<_, max}
 use native.Mathlib.Omega.{arith}
 use native.Mathlib.Numerals.{add-one}
 use mathlib.Core.Path.{_≡_, refl, sym, ap, ap₂, _∙_}
-use mathlib.Core.Logic.{_≢_, ⊎-elim}
+use mathlib.Core.Logic.{_≢_}
 use mathlib.Core.Bool.{Bool, true, false, not, _&&_}
 use mathlib.Core.List.{List, [], _∷_}
 use lib.Dec.{leb, ltb, eqb, leb→le}
@@ -115,5 +115,9 @@ module _ (board t l : List ℕ) (first slot core v r k : ℕ) (er : r ≡ rateOn
   -- a task that may stand there has its rate left
   pub rate-left : permittedOn board t l first slot core v ≡ true → k ≡ counterOn board slot v → r ≤ nth l k
   unfolding permittedOn
-  rate-left e ek = omega (arith, ap (nth l) ek, leb→le (rateOn board v core) (nth l (counterOn board slot v)) (every-holds
-      (ltb 0 (rateOn board v core) ∷ leb (rateOn board v core) (nth l (counterOn board slot v)) ∷ freeOn t first core (v + 1) ∷ []) (rw e tt) .1 .0))
+  rate-left e ek = omega (
+    arith,
+    ap (nth l) ek,
+    leb→le (rateOn board v core) (nth l (counterOn board slot v)) (every-holds
+        (ltb 0 (rateOn board v core) ∷ leb (rateOn board v core) (nth l (counterOn board slot v)) ∷ freeOn t first core (v + 1) ∷ []) (rw e tt) .1 .0),
+  )

@@ -6,7 +6,7 @@ use native.Mathlib.Numerals.{add-one}
 use mathlib.Core.Path.{_≡_, refl, sym, ap, ap₂, _∙_}
 use mathlib.Core.Bool.{Bool, true, false, not, _&&_}
 use mathlib.Core.List.{List}
-use lib.Dec.{T, leb, eqb, leb→le, le→leb, eqb→eq}
+use lib.Dec.{leb, eqb, leb→le, le→leb, eqb→eq}
 use borrow.Author.Tests.{le-leb, eq-eqb}
 use lib.ListN.{length, take}
 use Rattle.laws.specs.Sum.{gate, sum}
@@ -14,7 +14,6 @@ use Rattle.laws.specs.Tests.{all, imp}
 use Rattle.laws.specs.Lists.{nth}
 use Rattle.laws.specs.Order.{rankOf}
 use Rattle.laws.proofs.TestLaws.{both, make-both, all-same, all-true}
-use Rattle.laws.proofs.SumLaws.{sum-zero}
 use Rattle.tasks.specs.Instance.{Instance}
 use Rattle.table.specs.Table.{coreOf, beside}
 use Rattle.table.proofs.TableLaws.{beside-before}
@@ -22,7 +21,7 @@ use Rattle.rules.specs.Rules.{permitted, closed, rank, evenRates, twin, idleTri
 use Rattle.rules.specs.Search.{ruleOf}
 use Rattle.rules.proofs.Plain.{prefix-permitted, prefix-closed}
 use Rattle.rules.proofs.Quick.{prefix-quickly}
-use Rattle.walk.specs.Machine.{most, evenOn, twinOn, tasksOn, permittedOn, twinRankOn, floorOn}
+use Rattle.walk.specs.Machine.{most, evenOn, tasksOn, permittedOn, twinRankOn, floorOn}
 use Rattle.walk.specs.Ready.{Small, Ready, Lefts}
 use Rattle.walk.proofs.ReadyLaws.{test-same, core-is, beside-at, permitted-is}
 

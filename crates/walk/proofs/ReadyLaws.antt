@@ -1,30 +1,30 @@
 -- What the walk's tests on its arrays say of the instance that the arrays are for.
 -- Assumes nothing.
-use Prim.Native.Nat.{ℕ, zero, suc, _+_, _*_, _-_, _/_, _%_, _≤_, _<_, pred}
+use Prim.Native.Nat.{ℕ, suc, _+_, _*_, _-_, _/_, _%_, _≤_, _<_}
 use native.Mathlib.Omega.{arith}
 use native.Mathlib.Numerals.{add-one}
 use native.Mathlib.Decide.{ℕ-discrete}
 use native.Mathlib.Nat.{suc-inj, eq-of-mul-eq-mul-right, mul-mod-left}
 use mathlib.Core.Path.{_≡_, refl, sym, ap, ap₂, _∙_}
 use mathlib.Core.Logic.{_≢_}
-use mathlib.Core.Bool.{Bool, true, false, cond, not, _&&_}
+use mathlib.Core.Bool.{Bool, true, false, cond, not}
 use mathlib.Core.List.{List, [], _∷_}
 use lib.Arith.{digits-div, digits-mod}
-use lib.Dec.{T, leb, ltb, eqb, leb→le, le→leb, ltb→lt, lt→ltb, eqb→eq, not-T, T-not}
+use lib.Dec.{T, leb, ltb, eqb, leb→le, le→leb, ltb→lt, lt→ltb, eqb→eq, T-not}
 use lib.ListN.{length, set}
 use lib.Seq.{getD-set-same, getD-set-other}
 use borrow.Author.Tests.{eq-eqb, ne-eqb}
 use Rattle.laws.specs.Sum.{gate, sum}
-use Rattle.laws.specs.Tests.{every, all, imp}
+use Rattle.laws.specs.Tests.{all}
 use Rattle.laws.specs.Lists.{nth}
 use Rattle.laws.proofs.TestLaws.{every-holds, holds-every, all-at, at-all, all-same, all-true, imp-use, imp-make}
-use Rattle.tasks.specs.Instance.{Instance, jobSlot, jobEnd, Regular}
-use Rattle.table.specs.Table.{cells, slotOf, coreOf, beside, share, done, workLeft, free}
-use Rattle.table.proofs.JobLaws.{job-slot, slot-job}
+use Rattle.tasks.specs.Instance.{Instance, jobEnd}
+use Rattle.table.specs.Table.{slotOf, coreOf, beside, share, done, workLeft, free}
+use Rattle.table.proofs.JobLaws.{slot-job}
 use Rattle.table.proofs.TableLaws.{done-same}
 use Rattle.table.proofs.ShareLaws.{share-none, share-own}
 use Rattle.rules.specs.Rules.{tests, permitted, settled, closed}
-use Rattle.walk.specs.Machine.{entryOn, rateOn, tasksOn, counterOn, freeOn, permittedOn, settledOn, closesOn}
+use Rattle.walk.specs.Machine.{entryOn, rateOn, counterOn, freeOn, permittedOn, settledOn, closesOn}
 use Rattle.walk.specs.Ready.{Small, counterOf, closedCounter, entryOf, Ready, Lefts}
 
 -- two tests that pass together are the same
@@ -174,21 +174,20 @@ module _ {P : Instance} {e : ℕ} {board : List ℕ} (small : Small P) (ready : 
           let fits = leb→le (rateOn board v core) (nth l (counterOn board slot v)) (p .1 .0) in
           test-cases (P .opens (suc v) slot)
           (λ o. rw (slot-is, core-is) (holds-every
-              (leb (suc v) (P .tasks) ∷ P .opens (suc v) slot ∷ ltb 0 (P .rate (suc v) core) ∷ free P (first + core) (nth t) (suc v)
-              ∷ leb (P .rate (suc v) core) (workLeft P (first + core) (nth t) (suc v) (P .job (suc v) slot)) ∷ [])
+          (leb (suc v) (P .tasks) ∷ P .opens (suc v) slot ∷ ltb 0 (P .rate (suc v) core) ∷ free P (first + core) (nth t) (suc v)
+          ∷ leb (P .rate (suc v) core) (workLeft P (first + core) (nth t) (suc v) (P .job (suc v) slot)) ∷ []) (
+            le→leb (suc v) (P .tasks) lv,
+            (
+              o,
               (
-                le→leb (suc v) (P .tasks) lv,
+                lt→ltb 0 (P .rate (suc v) core) (omega (arith, ready .rates v core lv lc)),
                 (
-                  o,
-                  (
-                    lt→ltb 0 (P .rate (suc v) core) (omega (arith, ready .rates v core lv lc)),
-                    (
-                      rw (free-is t (v + 1), add-one) at (p .1 .1 .0),
-                      (le→leb (P .rate (suc v) core) (workLeft P (first + core) (nth t) (suc v) (P .job (suc v) slot)) (omega (arith, ready .rates v core lv lc, left-open ls lv (first + core) (nth t) l lefts o)), tt),
-                    ),
-                  ),
+                  rw (free-is t (v + 1), add-one) at (p .1 .1 .0),
+                  (le→leb (P .rate (suc v) core) (workLeft P (first + core) (nth t) (suc v) (P .job (suc v) slot)) (omega (arith, ready .rates v core lv lc, left-open ls lv (first + core) (nth t) l lefts o)), tt),
                 ),
-              )))
+              ),
+            ),
+          )))
           (λ x. absurd (omega (arith, lefts .none-closed, ap (nth l) (counter-closed ls lv x .0))))
 
       -- and a permitted task is one that the arrays permit
@@ -196,12 +195,11 @@ module _ {P : Instance} {e : ℕ} {board : List ℕ} (small : Small P) (ready : 
       unfolding permittedOn permitted tests
       from-permitted h =
           let p = every-holds
-              (leb (suc v) (P .tasks) ∷ P .opens (suc v) slot ∷ ltb 0 (P .rate (suc v) core) ∷ free P (first + core) (nth t) (suc v)
-              ∷ leb (P .rate (suc v) core) (workLeft P (first + core) (nth t) (suc v) (P .job (suc v) slot)) ∷ []) (rw (slot-is, core-is) at h) in
+          (leb (suc v) (P .tasks) ∷ P .opens (suc v) slot ∷ ltb 0 (P .rate (suc v) core) ∷ free P (first + core) (nth t) (suc v)
+          ∷ leb (P .rate (suc v) core) (workLeft P (first + core) (nth t) (suc v) (P .job (suc v) slot)) ∷ []) (rw (slot-is, core-is) at h) in
           let pos = ltb→lt 0 (P .rate (suc v) core) (p .1 .1 .0) in
           let fits = leb→le (P .rate (suc v) core) _ (p .1 .1 .1 .1 .0) in
-          holds-every (ltb 0 (rateOn board v core) ∷ leb (rateOn board v core) (nth l (counterOn board slot v)) ∷ freeOn t first core (v + 1) ∷ [])
-          (
+          holds-every (ltb 0 (rateOn board v core) ∷ leb (rateOn board v core) (nth l (counterOn board slot v)) ∷ freeOn t first core (v + 1) ∷ []) (
             lt→ltb 0 (rateOn board v core) (omega (arith, ready .rates v core lv lc)),
             (
               le→leb (rateOn board v core) (nth l (counterOn board slot v)) (omega (arith, ready .rates v core lv lc, left-open ls lv (first + core) (nth t) l lefts (p .1 .0))),
@@ -257,7 +255,7 @@ module _ {P : Instance} {e : ℕ} {board : List ℕ} (small : Small P) (ready : 
             ready .rates v core lv lc,
             done-put t (v + 1) room (suc v) (P .job (suc v) slot),
             ap (share P (suc v) (P .job (suc v) slot) (first + core)) (add-one v),
-            rw core-is at (share-own P (suc v) (first + core) (rw slot-is o)) ,
+            rw core-is at (share-own P (suc v) (first + core) (rw slot-is o)),
             ap (λ s. share P (suc v) (P .job (suc v) s) (first + core) (suc v)) slot-is,
           )
 

@@ -9,7 +9,7 @@ use mathlib.Core.Path.{_≡_, refl, sym, ap, subst, subst₂, _∙_}
 use mathlib.Core.Logic.{_≢_, ⊎-elim}
 use mathlib.Core.Bool.{Bool, true, false, not, _&&_}
 use mathlib.Core.List.{List, [], _∷_, _++_}
-use lib.Dec.{T, leb, ltb, eqb, leb→le}
+use lib.Dec.{leb, ltb, eqb}
 use borrow.Author.Tests.{lt-ltb, le-ltb, le-leb, lt-leb, eq-eqb, ne-eqb, leb-true, leb-false}
 use lib.ListN.{length, take, drop, set, length-set}
 use lib.Seq.{drop-cons, take-take, take-suc-set, getD-take, getD-set-same, getD-set-other, take-set-le, set-set, set-getD}
@@ -26,11 +26,9 @@ use Rattle.rules.specs.Limit.{allow, bgate, bnext, btryAll, bwalk}
 use Rattle.rules.specs.Rules.{values, settled, closed}
 use Rattle.rules.specs.Search.{ruleOf, walked}
 use Rattle.rules.proofs.Limit.{bwalk-limited}
-use Rattle.walk.specs.declared.End.{End}
-use Rattle.walk.specs.declared.End.the-variants.{Found, Nothing, Stopped}
-use Rattle.walk.specs.Machine.{State, state, Onward, orElse, counterOn, rateOn, evenOn, tasksOn, coresOn, slotsOn, freeOn, permittedOn, floorOn, closesOn, idleLast, placed, tryFrom, closeThen, walkOn}
+use Rattle.walk.specs.Machine.{End, Found, Nothing, Stopped, State, state, Onward, counterOn, rateOn, evenOn, coresOn, slotsOn, freeOn, permittedOn, floorOn, closesOn, idleLast, placed, tryFrom, closeThen, walkOn}
 use Rattle.walk.specs.Ready.{Small, Ready, Lefts}
-use Rattle.walk.proofs.TurnLaws.{skip, barred-by-B, stop, tried, back}
+use Rattle.walk.proofs.TurnLaws.{or-else-stays, skip, barred-by-B, stop, tried, back}
 use Rattle.walk.proofs.ReadyLaws.{closes-is, closed-within, permitted-tells, lefts-idle, lefts-put}
 use Rattle.walk.proofs.ObeyLaws.{cost-one, closes-prefix, task-tried, idle-tried}
 
@@ -57,12 +55,6 @@ end-cases : {X : Type 0} (e : End) → (e ≡ Nothing → X) → ((e ≡ Nothing
 end-cases Found f g = g (λ z. let y : _≡_ {A = ℕ} 0 1 = cc in omega arith)
 end-cases Nothing f g = f refl
 end-cases Stopped f g = g (λ z. let y : _≡_ {A = ℕ} 0 1 = cc in omega arith)
-
--- a walk that has ended stays as it is
-or-else-stays : (e : End) (r : State) (k : State → State) → (e ≡ Nothing → ⊥) → orElse e r k ≡ r
-or-else-stays Found r k x = refl
-or-else-stays Nothing r k x = absurd (x refl)
-or-else-stays Stopped r k x = refl
 
 -- Stopped is not Nothing
 stopped-apart : _≡_ {A = End} Stopped Nothing → ⊥

@@ -2,17 +2,14 @@
 -- Assumes nothing.
 use Prim.Native.Nat.{ℕ, zero, suc, _+_, _*_, _-_, _/_, _%_, _≤_, _<_, max}
 use mathlib.Core.Path.{_≡_}
-use mathlib.Core.Bool.{Bool, true, false, cond, not}
+use mathlib.Core.Bool.{Bool, cond, not}
 use mathlib.Core.List.{List, [], _∷_}
 use lib.Dec.{leb, ltb, eqb}
-use lib.ListN.{length, set}
+use lib.ListN.{set}
 use Rattle.laws.specs.Sum.{gate}
 use Rattle.laws.specs.Tests.{every, all, imp}
 use Rattle.laws.specs.Lists.{nth}
 use Rattle.laws.specs.Order.{rankOf}
-use Rattle.walk.specs.declared.Walked.{Walked}
-use Rattle.walk.specs.declared.End.{End}
-use Rattle.walk.specs.declared.End.the-variants.{Found, Nothing, Stopped}
 
 -- the value stands on none of the earlier cores of the slot that begins at cell first
 unfoldable pub freeOn : List ℕ → ℕ → ℕ → ℕ → Bool
@@ -72,6 +69,18 @@ settledOn board l slot v = imp (not (eqb (entryOn board slot v % 2) 0)) (eqb (nt
 -- each job whose highest-numbered slot this is has no work left
 unfoldable pub closesOn : List ℕ → List ℕ → ℕ → Bool
 closesOn board l slot = all (tasksOn board) (settledOn board l slot)
+
+-- how a walk ends
+pub data End : Type 0 where
+  Found : End
+  Nothing : End
+  Stopped : End
+
+-- an end and the tries in one number
+unfoldable pub packed : End → ℕ → ℕ
+packed Found u = 4294967296 + u
+packed Nothing u = u
+packed Stopped u = 8589934592 + u
 
 -- an end, the tries, the table and the work left
 pub record State : Type 0 where
@@ -139,12 +148,17 @@ pub record Fits (board : List ℕ) (first slot : ℕ) : Type 0 where
   pub first-is : first ≡ slot * coresOn board
   pub slot-in : slot < slotsOn board
 
+-- a number, a table and the work left tell a state, whose tries are within the limit
+pub record Leaves (limit : ℕ) (s : State) (r : ℕ) (t l : List ℕ) : Type 0 where
+  pub answer : r ≡ packed (s .end) (s .tries)
+  pub table : t ≡ s .table
+  pub left : l ≡ s .left
+  pub most : s .tries ≤ limit
+
 -- what a walk from a cell answers and leaves
-pub record Ran (board : List ℕ) (limit first slot core : ℕ) (t l : List ℕ) (u : ℕ) (r : Walked) (t′ l′ : List ℕ) : Type 0 where
-  pub is : state (r .end) t′ l′ (r .tries) ≡ walkOn (cellsOn board - (first + core)) board limit first slot core t l u
-  pub most : r .tries ≤ limit
+pub record Ran (board : List ℕ) (limit first slot core : ℕ) (t l : List ℕ) (u r : ℕ) (t′ l′ : List ℕ) : Type 0 where
+  pub leaves : Leaves limit (walkOn (cellsOn board - (first + core)) board limit first slot core t l u) r t′ l′
 
 -- the same after a cell, with the slot to close
-pub record Closed (board : List ℕ) (limit first slot core : ℕ) (t l : List ℕ) (u : ℕ) (r : Walked) (t′ l′ : List ℕ) : Type 0 where
-  pub is : state (r .end) t′ l′ (r .tries) ≡ closeThen board (walkOn (cellsOn board - (first + core)) board limit) first slot core t l u
-  pub most : r .tries ≤ limit
+pub record Closed (board : List ℕ) (limit first slot core : ℕ) (t l : List ℕ) (u r : ℕ) (t′ l′ : List ℕ) : Type 0 where
+  pub leaves : Leaves limit (closeThen board (walkOn (cellsOn board - (first + core)) board limit) first slot core t l u) r t′ l′

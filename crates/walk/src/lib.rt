@@ -11,23 +11,21 @@ ghost use Rattle.laws.specs.Lists.{nth};
 ghost use lib.ListN.{set};
 
 const RATES: usize = 16384;
+
 const EVEN: usize = 16448;
+
 const TWINS: usize = 16464;
+
 const TASKS: usize = 16480;
+
 const CORES: usize = 16481;
+
 const SLOTS: usize = 16482;
 
-// How a walk ends.
-pub enum End {
-    Found,
-    Nothing,
-    Stopped,
-}
+// What a walk adds to its tries if it found a table, or was stopped: a number comes back in a register, a struct in memory.
+pub const FOUND: u64 = 4294967296;
 
-pub struct Walked {
-    pub end: End,
-    pub tries: u32,
-}
+pub const STOPPED: u64 = 8589934592;
 
 // A number of the board, and that it is one.
 fn wide(x: u16) -> usize
@@ -176,17 +174,17 @@ fn take_back(left: &mut [u16; 32768], counter: usize, had: u16)
     left[counter] = had;
 }
 
-// Tries each value in the cell of a core, in order: the tasks, and then idle.
+// Tries each value in the cell of a core, in order: the tasks, and then idle. What no call changes comes last.
 pub fn cell(
     table: &mut [u8; 4096],
-    left: &mut [u16; 32768],
     board: &[u16; 16483],
     first: usize,
     slot: usize,
     core: usize,
     tries: u32,
+    left: &mut [u16; 32768],
     limit: u32,
-) -> Walked
+) -> u64
     requires { ⌜ Fits (now board) first slot × (core < coresOn (now board)) × (tries ≤ limit) ⌝ }
     ensures { λ r. ⌜ Ran (now (board .entry)) limit first slot core (now (table .entry)) (now (left .entry)) tries r (now (table .exit)) (now (left .exit)) ⌝ }
 {
@@ -200,73 +198,53 @@ pub fn cell(
             barred += wide(board[EVEN + task]);
             if floor <= task + 1 {
                 if used == limit {
-                    return Walked {
-                        end: End::Stopped,
-                        tries: used,
-                    };
+                    return STOPPED + used as u64;
                 }
                 let counter = counter(board, slot, task);
                 let had = put(left, counter, rate(board, task, core));
                 table[first + core] = (task + 1) as u8;
-                let r = close_slot(table, left, board, first, slot, core + 1, used + 1, limit);
-                let e = r.end;
-                match e {
-                    End::Nothing => {
-                        take_back(left, counter, had);
-                        used = r.tries;
-                    }
-                    _ => {
-                        return r;
-                    }
+                let r = close_slot(table, board, first, slot, core + 1, used + 1, left, limit);
+                if FOUND <= r {
+                    return r;
                 }
+                take_back(left, counter, had);
+                used = r as u32;
             }
         }
         task += 1;
     }
     if barred != 0 {
-        return Walked {
-            end: End::Nothing,
-            tries: used,
-        };
+        return used as u64;
     }
     if used == limit {
-        return Walked {
-            end: End::Stopped,
-            tries: used,
-        };
+        return STOPPED + used as u64;
     }
     table[first + core] = 0;
-    close_slot(table, left, board, first, slot, core + 1, used + 1, limit)
+    close_slot(table, board, first, slot, core + 1, used + 1, left, limit)
 }
 
 // After a core: the next core; after the last, where no job is starved, the next slot; after the last slot the table is found.
 fn close_slot(
     table: &mut [u8; 4096],
-    left: &mut [u16; 32768],
     board: &[u16; 16483],
     first: usize,
     slot: usize,
     core: usize,
     tries: u32,
+    left: &mut [u16; 32768],
     limit: u32,
-) -> Walked
+) -> u64
     requires { ⌜ Fits (now board) first slot × (0 < core) × (core ≤ coresOn (now board)) × (tries ≤ limit) ⌝ }
     ensures { λ r. ⌜ Closed (now (board .entry)) limit first slot core (now (table .entry)) (now (left .entry)) tries r (now (table .exit)) (now (left .exit)) ⌝ }
 {
     if core < wide(board[CORES]) {
-        return cell(table, left, board, first, slot, core, tries, limit);
+        return cell(table, board, first, slot, core, tries, left, limit);
     }
     if closes(board, left, slot) {
         if slot + 1 < wide(board[SLOTS]) {
-            return cell(table, left, board, first + core, slot + 1, 0, tries, limit);
+            return cell(table, board, first + core, slot + 1, 0, tries, left, limit);
         }
-        return Walked {
-            end: End::Found,
-            tries,
-        };
+        return FOUND + tries as u64;
     }
-    Walked {
-        end: End::Nothing,
-        tries,
-    }
+    tries as u64
 }

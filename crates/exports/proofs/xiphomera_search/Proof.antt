@@ -3,7 +3,6 @@
 use borrow.Author.Needs.{needs}
 use Prim.Native.Nat.{_+_, _*_, _^_}
 use mathlib.Core.Path.{ap}
-
 use Rattle.exports.proofs.xiphomera_search.Statement.{statement}
 use Rattle.exports.proofs.xiphomera_search.Tie as tie
 

@@ -1,51 +1,43 @@
 -- `search::entry` meets its contract: the job that is told is one of the table's, and its last slot is tested as in the definition.
 -- Assumes nothing.
-use Prim.Native.Nat.{_/_, _<_}
 use native.Mathlib.Omega.{arith}
+use borrow.Author.Needs.{needs}
 use Rattle.search.proofs.FillLaws.{told-job, entry-end, entry-early, entry-closed}
 use Rattle.search.proofs.entry.Statement.{statement}
 use Rattle.search.proofs.entry.Tie as tie
 
 open-in-requires : tie.Need-open-in-requires
-open-in-requires c κs = omega arith
+open-in-requires c κs = search needs
 
 enum-known-window : tie.Need-enum-known-window
-enum-known-window c = omega arith
-
--- the job that is told is one of the table's
-job : (c : tie.After-window) → (c .window .given .0 .0 < c .before .before .before .args .len .0 / c .before .before .before .args .t .period .0) × (c .window .given .0 .0 < 1024)
-job c = told-job _ _ _ _ _ (c .before .before .before .pre .0) (c .before .before .open-in .ensures) (c .window .given .1)
+enum-known-window c = search needs
 
 last-slot-requires : tie.Need-last-slot-requires
-last-slot-requires c κs = (omega arith, omega arith, omega arith, job (c .before) .0)
+last-slot-requires c κs = (search needs, search needs, search needs, told-job _ _ _ _ _ (c .before .before .before .before .pre .0) (c .before .before .before .open-in .ensures) (c .before .window .given .1) .0)
 
 mul-counter : tie.Need-mul-counter
-mul-counter c = omega (arith, job (c .before .before) .1)
+mul-counter c = omega (arith, told-job _ _ _ _ _ (c .before .before .before .before .before .pre .0) (c .before .before .before .before .open-in .ensures) (c .before .before .window .given .1) .1)
 
 add-counter : tie.Need-add-counter
-add-counter c = omega (arith, job (c .before .before) .1)
+add-counter c = omega (arith, told-job _ _ _ _ _ (c .before .before .before .before .before .pre .0) (c .before .before .before .before .open-in .ensures) (c .before .before .window .given .1) .1)
 
 mul-result : tie.Need-mul-result
-mul-result c = omega (arith, job (c .before .before .before .before .before) .1)
+mul-result c = omega (arith, told-job _ _ _ _ _ (c .before .before .before .before .before .before .before .before .pre .0) (c .before .before .before .before .before .before .before .open-in .ensures) (c .before .before .before .before .before .window .given .1) .1)
 
 add-result : tie.Need-add-result
-add-result c = omega (arith, job (c .before .before .before .before .before) .1)
+add-result c = omega (arith, told-job _ _ _ _ _ (c .before .before .before .before .before .before .before .before .pre .0) (c .before .before .before .before .before .before .before .open-in .ensures) (c .before .before .before .before .before .window .given .1) .1)
 
 mul-result-2 : tie.Need-mul-result-2
-mul-result-2 c = omega (arith, job (c .before .before .before .before .before) .1)
+mul-result-2 c = omega (arith, told-job _ _ _ _ _ (c .before .before .before .before .before .before .before .before .pre .0) (c .before .before .before .before .before .before .before .open-in .ensures) (c .before .before .before .before .before .window .given .1) .1)
 
 enum-told : tie.Need-enum-told
-enum-told c = omega arith
+enum-told c = search needs
 
 returns : tie.Need-returns
-returns c =
-    entry-end _ _ _ _ _ _ _ (c .before .before .before .before .before .before .before .open-in .ensures) (c .before .before .before .before .before .window .given .1)
-    (c .before .before .before .last-slot .ensures) (c .if1 .taken)
+returns c = entry-end _ _ _ _ _ _ _ (c .before .before .before .before .before .before .before .open-in .ensures) (c .before .before .before .before .before .window .given .1) (c .before .before .before .last-slot .ensures) (c .if1 .taken)
 
 returns-2 : tie.Need-returns-2
-returns-2 c =
-    entry-early _ _ _ _ _ _ _ (c .before .before .before .before .before .before .before .open-in .ensures) (c .before .before .before .before .before .window .given .1)
-    (c .before .before .before .last-slot .ensures) (c .if1 .left)
+returns-2 c = entry-early _ _ _ _ _ _ _ (c .before .before .before .before .before .before .before .open-in .ensures) (c .before .before .before .before .before .window .given .1) (c .before .before .before .last-slot .ensures) (c .if1 .left)
 
 returns-3 : tie.Need-returns-3
 returns-3 c = entry-closed _ _ _ _ _ (c .before .before .open-in .ensures) (c .enum-told .given .1)

@@ -1,14 +1,14 @@
 -- `search::even_pair` meets its contract: the tests are the definition's.
 -- Assumes nothing.
-use Rattle.search.proofs.FillLaws.{one-zero, other-zero, both-positive}
+use Rattle.search.proofs.FillLaws.{first-zero, second-zero, both-positive}
 use Rattle.search.proofs.even_pair.Statement.{statement}
 use Rattle.search.proofs.even_pair.Tie as tie
 
 returns : tie.Need-returns
-returns c = one-zero _ _ (c .if1 .taken)
+returns c = first-zero _ _ (c .if1 .taken)
 
 returns-2 : tie.Need-returns-2
-returns-2 c = other-zero _ _ (c .before .if1 .left) (c .if2 .taken)
+returns-2 c = second-zero _ _ (c .before .if1 .left) (c .if2 .taken)
 
 returns-3 : tie.Need-returns-3
 returns-3 c = both-positive _ _ (c .before .if1 .left) (c .if2 .left)

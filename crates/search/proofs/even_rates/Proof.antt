@@ -1,9 +1,9 @@
 -- `search::even_rates` meets its contract. The loop's invariant: the test passes for each core passed.
--- The measure is what is left. Assumes nothing.
+-- Assumes nothing.
 use Prim.Native.Nat.{ℕ, _-_, _≤_, _<_}
 use mathlib.Core.Path.{_≡_, sym, _∙_}
 use mathlib.Core.Bool.{true}
-use native.Mathlib.Omega.{arith}
+use borrow.Author.Needs.{needs}
 use borrow.Author.Count.{below-none, below-more}
 use borrow.Author.Tests.{not-true, not-false}
 use Rattle.search.specs.Board.{evenWith, rowEven}
@@ -18,23 +18,23 @@ abbrev μ-loop : tie.MeasureT-loop
 μ-loop m row a₀ a = m - a
 
 loop-holds : tie.Need-loop-holds Inv-loop μ-loop
-loop-holds c = (omega arith, below-none _)
+loop-holds c = (search needs, below-none _)
 
 even-with-requires : tie.Need-even-with-requires Inv-loop μ-loop
-even-with-requires c κs = omega arith
+even-with-requires c κs = search needs
 
 returns : tie.Need-returns Inv-loop μ-loop
 unfolding rowEven
 returns c = one-fails _ _ _ _ (c .before .before .loop-test .taken) (c .before .even-with .ensures) (not-true _ (c .if1 .taken))
 
 add-a : tie.Need-add-a Inv-loop μ-loop
-add-a c = omega arith
+add-a c = search needs
 
 loop-less : tie.Need-loop-less Inv-loop μ-loop
-loop-less c = omega arith
+loop-less c = search needs
 
 loop-again : tie.Need-loop-again Inv-loop μ-loop
-loop-again c = (omega arith, below-more _ _ (c .before .before .before .loop .inv .1) (sym (c .before .even-with .ensures) ∙ not-false _ (c .if1 .left)))
+loop-again c = (search needs, below-more _ _ (c .before .before .before .loop .inv .1) (sym (c .before .even-with .ensures) ∙ not-false _ (c .if1 .left)))
 
 returns-2 : tie.Need-returns-2 Inv-loop μ-loop
 unfolding rowEven

@@ -1,9 +1,9 @@
 -- `search::even_with` meets its contract. The loop's invariant: the test passes for each core passed.
--- The measure is what is left. Assumes nothing.
+-- Assumes nothing.
 use Prim.Native.Nat.{ℕ, _-_, _≤_, _<_}
 use mathlib.Core.Path.{_≡_, sym, _∙_}
 use mathlib.Core.Bool.{true}
-use native.Mathlib.Omega.{arith}
+use borrow.Author.Needs.{needs}
 use borrow.Author.Count.{below-none, below-more}
 use borrow.Author.Tests.{not-true, not-false}
 use Rattle.laws.specs.Lists.{nth}
@@ -19,29 +19,29 @@ abbrev μ-loop : tie.MeasureT-loop
 μ-loop a m row b₀ b = m - b
 
 loop-holds : tie.Need-loop-holds Inv-loop μ-loop
-loop-holds c = (omega arith, below-none _)
+loop-holds c = (search needs, below-none _)
 
 array-read-even-pair : tie.Need-array-read-even-pair Inv-loop μ-loop
-array-read-even-pair c = omega arith
+array-read-even-pair c = search needs
 
 array-read-even-pair-2 : tie.Need-array-read-even-pair-2 Inv-loop μ-loop
-array-read-even-pair-2 c = omega arith
+array-read-even-pair-2 c = search needs
 
 even-pair-requires : tie.Need-even-pair-requires Inv-loop μ-loop
-even-pair-requires c κs = tt
+even-pair-requires c κs = search needs
 
 returns : tie.Need-returns Inv-loop μ-loop
 unfolding evenWith
 returns c = one-fails _ _ _ _ (c .before .before .loop-test .taken) (c .before .even-pair .ensures) (not-true _ (c .if1 .taken))
 
 add-b : tie.Need-add-b Inv-loop μ-loop
-add-b c = omega arith
+add-b c = search needs
 
 loop-less : tie.Need-loop-less Inv-loop μ-loop
-loop-less c = omega arith
+loop-less c = search needs
 
 loop-again : tie.Need-loop-again Inv-loop μ-loop
-loop-again c = (omega arith, below-more _ _ (c .before .before .before .loop .inv .1) (sym (c .before .even-pair .ensures) ∙ not-false _ (c .if1 .left)))
+loop-again c = (search needs, below-more _ _ (c .before .before .before .loop .inv .1) (sym (c .before .even-pair .ensures) ∙ not-false _ (c .if1 .left)))
 
 returns-2 : tie.Need-returns-2 Inv-loop μ-loop
 unfolding evenWith

@@ -1,38 +1,36 @@
 -- `search::fill_board` meets its contract: its parts are filled one after the other.
 -- Assumes nothing.
-use native.Mathlib.Omega.{arith}
+use borrow.Author.Needs.{needs}
 use Rattle.search.proofs.FillLaws.{board-filled}
 use Rattle.search.proofs.fill_board.Statement.{statement}
 use Rattle.search.proofs.fill_board.Tie as tie
 
 fill-grid-requires : tie.Need-fill-grid-requires
-fill-grid-requires c κs = (omega arith, omega arith, c .before .pre .3)
+fill-grid-requires c κs = search needs
 
 fill-rates-requires : tie.Need-fill-rates-requires
-fill-rates-requires c κs = tt
+fill-rates-requires c κs = search needs
 
 fill-even-requires : tie.Need-fill-even-requires
-fill-even-requires c κs = omega arith
+fill-even-requires c κs = search needs
 
 fill-twins-requires : tie.Need-fill-twins-requires
-fill-twins-requires c κs = omega arith
+fill-twins-requires c κs = search needs
 
 cast-board : tie.Need-cast-board
-cast-board c = omega arith
+cast-board c = search needs
 
 element-write-board : tie.Need-element-write-board
-element-write-board c = omega arith
+element-write-board c = search needs
 
 element-write-board-2 : tie.Need-element-write-board-2
-element-write-board-2 c = omega arith
+element-write-board-2 c = search needs
 
 element-write-board-3 : tie.Need-element-write-board-3
-element-write-board-3 c = omega arith
+element-write-board-3 c = search needs
 
 returns : tie.Need-returns
-returns c =
-    board-filled _ _ _ _ _ _ _ _ _ (c .before .before .before .before .before .before .before .before .fill-grid .ensures) (c .before .before .before .before .before .fill-rates .ensures)
-    (c .before .before .before .fill-even .ensures) (c .before .fill-twins .ensures)
+returns c = board-filled _ _ _ _ _ _ _ _ _ (c .before .before .before .before .before .before .before .before .fill-grid .ensures) (c .before .before .before .before .before .fill-rates .ensures) (c .before .before .before .fill-even .ensures) (c .before .fill-twins .ensures)
 
 pub fill-board-spec : {M : Type 1} → statement M
 fill-board-spec =

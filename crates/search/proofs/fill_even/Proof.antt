@@ -1,7 +1,8 @@
 -- `search::fill_even` meets its contract. The loop's invariant: the marks passed stand on the board, and the rest is as it was.
--- The measure is what is left. Assumes nothing.
+-- Assumes nothing.
 use Prim.Native.Nat.{_-_, _≤_}
 use mathlib.Core.Path.{_≡_}
+use borrow.Author.Needs.{needs}
 use native.Mathlib.Omega.{arith}
 use Rattle.laws.specs.Lists.{filled}
 use Rattle.laws.proofs.ListLaws.{filled-none, filled-next}
@@ -17,28 +18,28 @@ abbrev μ-loop : tie.MeasureT-loop
 μ-loop board₀ list m engine v₀ board v = 16 - v
 
 loop-holds : tie.Need-loop-holds Inv-loop μ-loop
-loop-holds c = (omega arith, filled-none _ _ _)
+loop-holds c = (search needs, filled-none _ _ _)
 
 even-mark-requires : tie.Need-even-mark-requires Inv-loop μ-loop
-even-mark-requires c κs = omega arith
+even-mark-requires c κs = search needs
 
 add-board : tie.Need-add-board Inv-loop μ-loop
-add-board c = omega arith
+add-board c = search needs
 
 mul-board : tie.Need-mul-board Inv-loop μ-loop
-mul-board c = omega arith
+mul-board c = search needs
 
 element-write-board : tie.Need-element-write-board Inv-loop μ-loop
-element-write-board c = omega arith
+element-write-board c = search needs
 
 add-v : tie.Need-add-v Inv-loop μ-loop
-add-v c = omega arith
+add-v c = search needs
 
 loop-less : tie.Need-loop-less Inv-loop μ-loop
-loop-less c = omega arith
+loop-less c = search needs
 
 loop-again : tie.Need-loop-again Inv-loop μ-loop
-loop-again c = (omega arith, filled-next _ _ _ _ _ _ (c .before .before .loop .inv .1) (c .even-mark .ensures))
+loop-again c = (search needs, filled-next _ _ _ _ _ _ (c .before .before .loop .inv .1) (c .even-mark .ensures))
 
 returns : tie.Need-returns Inv-loop μ-loop
 returns c = all-stored _ _ _ _ _ _ (omega arith) (omega arith) (c .before .loop .inv .1)

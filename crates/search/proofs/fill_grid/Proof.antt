@@ -1,8 +1,10 @@
 -- `search::fill_grid` meets its contract. The loop's invariant: the entries passed stand on the board, and the rest is as it was.
--- The measure is what is left. Assumes nothing.
-use Prim.Native.Nat.{_*_, _-_, _≤_}
+-- Assumes nothing.
+use Prim.Native.Nat.{_-_, _≤_}
 use mathlib.Core.Path.{_≡_}
+use borrow.Author.Needs.{needs}
 use native.Mathlib.Omega.{arith}
+use Prim.Native.Nat.{_*_}
 use Rattle.laws.specs.Lists.{filled}
 use Rattle.laws.proofs.ListLaws.{filled-none}
 use Rattle.search.specs.Board.{gridEntry}
@@ -17,31 +19,31 @@ abbrev μ-loop : tie.MeasureT-loop
 μ-loop board₀ list len n x₀ board x = n - x
 
 cast-n : tie.Need-cast-n Inv-loop μ-loop
-cast-n c = omega arith
+cast-n c = search needs
 
 mul-n : tie.Need-mul-n Inv-loop μ-loop
-mul-n c = omega arith
+mul-n c = search needs
 
 loop-holds : tie.Need-loop-holds Inv-loop μ-loop
-loop-holds c = (omega arith, omega arith, filled-none _ _ _)
+loop-holds c = (search needs, search needs, filled-none _ _ _)
 
 grid-entry-requires : tie.Need-grid-entry-requires Inv-loop μ-loop
-grid-entry-requires c κs = (omega arith, c .before .before .before .pre .2, omega arith)
+grid-entry-requires c κs = (search needs, c .before .before .before .pre .2, search needs)
 
 mul-board : tie.Need-mul-board Inv-loop μ-loop
-mul-board c = omega arith
+mul-board c = search needs
 
 element-write-board : tie.Need-element-write-board Inv-loop μ-loop
-element-write-board c = omega arith
+element-write-board c = search needs
 
 add-x : tie.Need-add-x Inv-loop μ-loop
-add-x c = omega arith
+add-x c = search needs
 
 loop-less : tie.Need-loop-less Inv-loop μ-loop
-loop-less c = omega arith
+loop-less c = search needs
 
 loop-again : tie.Need-loop-again Inv-loop μ-loop
-loop-again c = (omega arith, omega arith, next-stored _ _ _ _ _ (c .before .before .loop .inv .2) (c .grid-entry .ensures))
+loop-again c = (search needs, search needs, next-stored _ _ _ _ _ (c .before .before .loop .inv .2) (c .grid-entry .ensures))
 
 returns : tie.Need-returns Inv-loop μ-loop
 returns c = all-stored _ _ _ _ _ _ (omega arith) (omega arith) (c .before .loop .inv .2)

@@ -1,7 +1,8 @@
 -- `search::fill_left` meets its contract. The loop's invariant: the counters passed hold their job's work, and the others are as they were.
--- The measure is what is left. Assumes nothing.
+-- Assumes nothing.
 use Prim.Native.Nat.{_-_, _≤_}
 use mathlib.Core.Path.{_≡_, refl}
+use borrow.Author.Needs.{needs}
 use native.Mathlib.Omega.{arith}
 use Rattle.laws.specs.Lists.{filled}
 use Rattle.laws.proofs.ListLaws.{filled-none}
@@ -17,28 +18,28 @@ abbrev μ-loop : tie.MeasureT-loop
 μ-loop left₀ work x₀ left x = 16384 - x
 
 loop-holds : tie.Need-loop-holds Inv-loop μ-loop
-loop-holds c = (omega arith, filled-none _ _ _)
+loop-holds c = (search needs, filled-none _ _ _)
 
 mul-left : tie.Need-mul-left Inv-loop μ-loop
-mul-left c = omega arith
+mul-left c = search needs
 
 array-read-left : tie.Need-array-read-left Inv-loop μ-loop
-array-read-left c = omega arith
+array-read-left c = search needs
 
 mul-left-2 : tie.Need-mul-left-2 Inv-loop μ-loop
-mul-left-2 c = omega arith
+mul-left-2 c = search needs
 
 element-write-left : tie.Need-element-write-left Inv-loop μ-loop
-element-write-left c = omega arith
+element-write-left c = search needs
 
 add-x : tie.Need-add-x Inv-loop μ-loop
-add-x c = omega arith
+add-x c = search needs
 
 loop-less : tie.Need-loop-less Inv-loop μ-loop
-loop-less c = omega arith
+loop-less c = search needs
 
 loop-again : tie.Need-loop-again Inv-loop μ-loop
-loop-again c = (omega arith, next-stored _ _ _ _ _ (c .before .loop .inv .1) refl)
+loop-again c = (search needs, next-stored _ _ _ _ _ (c .before .loop .inv .1) refl)
 
 returns : tie.Need-returns Inv-loop μ-loop
 returns c = all-stored _ _ _ _ _ _ (omega arith) (omega arith) (c .before .loop .inv .1)

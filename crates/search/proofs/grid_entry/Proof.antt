@@ -1,24 +1,24 @@
 -- `search::grid_entry` meets its contract: a place has its task's entry, and 0 where it has no task.
 -- Assumes nothing.
-use native.Mathlib.Omega.{arith}
+use borrow.Author.Needs.{needs}
 use Rattle.search.proofs.FillLaws.{read-fits, grid-task, grid-none}
 use Rattle.search.proofs.grid_entry.Statement.{statement}
 use Rattle.search.proofs.grid_entry.Tie as tie
 
 cast-if1 : tie.Need-cast-if1
-cast-if1 c = omega arith
+cast-if1 c = search needs
 
 task-at-requires : tie.Need-task-at-requires
-task-at-requires c κs = omega arith
+task-at-requires c κs = search needs
 
 cast-entry : tie.Need-cast-entry
-cast-entry c = omega arith
+cast-entry c = search needs
 
 cast-t11 : tie.Need-cast-t11
-cast-t11 c = omega arith
+cast-t11 c = search needs
 
 entry-requires : tie.Need-entry-requires
-entry-requires c κs = (read-fits _ _ _ _ (c .task-at .ensures) (c .before .before .before .pre .1 _ (c .before .if1 .taken)), omega arith, omega arith)
+entry-requires c κs = (read-fits _ _ _ _ (c .task-at .ensures) (c .before .before .before .pre .1 _ (c .before .if1 .taken)), search needs, search needs)
 
 returns : tie.Need-returns
 returns c = grid-task _ _ _ _ _ (c .before .before .if1 .taken) (c .before .task-at .ensures) (c .entry .ensures)

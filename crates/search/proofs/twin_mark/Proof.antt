@@ -1,6 +1,6 @@
 -- `search::twin_mark` meets its contract: the tests are the definition's.
 -- Assumes nothing.
-use native.Mathlib.Omega.{arith}
+use borrow.Author.Needs.{needs}
 use Rattle.search.specs.Board.{twinMark}
 use Rattle.search.proofs.FillLaws.{plain-mark, quick-mark, quick-none}
 use Rattle.search.proofs.twin_mark.Statement.{statement}
@@ -11,10 +11,10 @@ unfolding twinMark
 returns c = plain-mark _ _ (c .if1 .taken)
 
 cast-twin-cores : tie.Need-cast-twin-cores
-cast-twin-cores c = omega arith
+cast-twin-cores c = search needs
 
 twin-cores-requires : tie.Need-twin-cores-requires
-twin-cores-requires c κs = omega arith
+twin-cores-requires c κs = search needs
 
 returns-2 : tie.Need-returns-2
 unfolding twinMark

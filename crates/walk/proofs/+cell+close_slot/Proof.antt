@@ -3,11 +3,11 @@
 use borrow.Author.Needs.{needs}
 use native.Mathlib.Omega.{arith}
 use mathlib.Core.Logic.{⊎-elim}
-use mathlib.Core.Path.{_≡_, refl, sym, ap, _∙_}
+use mathlib.Core.Path.{sym, _∙_}
 use Rattle.walk.specs.Machine.{cellsOn}
 use Rattle.walk.proofs.MachineLaws.{rate-left}
 use Rattle.walk.proofs.TurnLaws.{in-table, upto-table, in-cells, next-slot, Turn, turn-same, begins, skips, bars, stops, backs, ends, idle-barred, idle-stops, idles, goes-on, starved, founds, next-slots}
-use Prim.Native.Nat.{ℕ, _+_, _*_, _-_, _<_, _≤_}
+use Prim.Native.Nat.{ℕ, _+_, _*_, _-_, _<_}
 use borrow.Fn.Kinds.{In}
 use borrow.Fn.PlainCycle.{Measures, is, falls, and}
 use Rattle.walk.proofs.cell.Reads as cell
@@ -28,10 +28,10 @@ use Rattle.walk.proofs.+cell+close_slot.{statement}
 use Rattle.walk.proofs.+cell+close_slot.Tie.{close}
 
 abbrev μ-cell : Measures 3 cell-kinds.ps ℕ
-μ-cell κs a = 2 * (cellsOn (a .1 .1 .0 .now) - (a .1 .1 .1 .0 + a .1 .1 .1 .1 .1 .0))
+μ-cell κs a = 2 * (cellsOn (a .1 .0 .now) - (a .1 .1 .0 + a .1 .1 .1 .1 .0))
 
 abbrev μ-close-slot : Measures 3 close-slot-kinds.ps ℕ
-μ-close-slot κs a = 2 * (cellsOn (a .1 .1 .0 .now) - (a .1 .1 .1 .0 + a .1 .1 .1 .1 .1 .0)) + 1
+μ-close-slot κs a = 2 * (cellsOn (a .1 .0 .now) - (a .1 .1 .0 + a .1 .1 .1 .1 .0)) + 1
 
 abbrev cell-at : ℕ → In 3 cell-kinds.ps
 cell-at t = and 3 cell-kinds.ps (is 3 cell-kinds.ps μ-cell t) cell.Pre
@@ -54,11 +54,11 @@ abbrev close-slot-claims : ℕ → close-slot-lts.Claims
 close-slot-claims t = (wide-reads.Asked, wide-reads.Learnt, cell-below t, cell.Post, closes-reads.Asked, closes-reads.Learnt)
 
 abbrev cell-Inv-loop : cell-lts.InvT-loop
-cell-Inv-loop table₀ left₀ board first slot core tries limit n floor used₀ barred₀ task₀ table left used barred task =
+cell-Inv-loop table₀ board first slot core tries left₀ limit n floor used₀ barred₀ task₀ table left used barred task =
     Turn board limit first slot core table₀ left₀ tries n floor table left used barred task
 
 abbrev cell-μ-loop : cell-lts.MeasureT-loop
-cell-μ-loop table₀ left₀ board first slot core tries limit n floor used₀ barred₀ task₀ table left used barred task =
+cell-μ-loop table₀ board first slot core tries left₀ limit n floor used₀ barred₀ task₀ table left used barred task =
     n - task
 
 cell-element-copy-out-wide : (t : ℕ) → cell-lts.Need-element-copy-out-wide (cell-claims t) (cell-at t) cell.Post cell-Inv-loop cell-μ-loop
@@ -96,6 +96,12 @@ cell-add-barred t c = search needs
 
 cell-add-if2 : (t : ℕ) → cell-lts.Need-add-if2 (cell-claims t) (cell-at t) cell.Post cell-Inv-loop cell-μ-loop
 cell-add-if2 t c = search needs
+
+cell-cast-result : (t : ℕ) → cell-lts.Need-cast-result (cell-claims t) (cell-at t) cell.Post cell-Inv-loop cell-μ-loop
+cell-cast-result t c = search needs
+
+cell-add-result : (t : ℕ) → cell-lts.Need-add-result (cell-claims t) (cell-at t) cell.Post cell-Inv-loop cell-μ-loop
+cell-add-result t c = search needs
 
 cell-returns : (t : ℕ) → cell-lts.Need-returns (cell-claims t) (cell-at t) cell.Post cell-Inv-loop cell-μ-loop
 cell-returns t c =
@@ -135,15 +141,15 @@ cell-close-slot-requires : (t : ℕ) → cell-lts.Need-close-slot-requires (cell
 cell-close-slot-requires t c κs =
     let s = c .before .before .before .before .before .before .before .before .before .before .before .before .before .before .before .before .before .before .before .before in let f = s .pre .1 .0 in (omega (arith, s .pre .0, in-cells f _ (s .pre .1 .1)), (f, omega arith, omega (arith, s .pre .1 .1), omega (arith, c .before .before .before .before .before .before .before .before .before .before .before .before .before .before .before .loop .inv .most, c .before .before .before .before .before .before .if3 .left)))
 
-cell-enum-told : (t : ℕ) → cell-lts.Need-enum-told (cell-claims t) (cell-at t) cell.Post cell-Inv-loop cell-μ-loop
-cell-enum-told t c = search needs
+cell-returns-2 : (t : ℕ) → cell-lts.Need-returns-2 (cell-claims t) (cell-at t) cell.Post cell-Inv-loop cell-μ-loop
+cell-returns-2 t c =
+    ends (c .before .before .before .before .before .before .before .before .before .before .before .before .before .before .before .before .before .loop .inv) (c .before .before .before .before .before .before .before .before .before .before .before .before .before .before .before .before .loop-test .taken) (c .before .before .before .before .before .before .before .before .before .before .before .before .before .permitted .ensures) (c .before .before .before .before .before .before .before .before .before .before .before .before .if1 .taken) (c .before .before .before .before .before .before .before .before .before .before .wide2 .ensures .0) (c .before .before .before .before .before .before .before .before .before .before .wide2 .ensures .1) (c .before .before .before .before .before .before .before .before .before .if2 .taken) (c .before .before .before .before .before .before .before .before .if3 .left) (c .before .before .before .before .before .before .before .counter .ensures .0) (c .before .before .before .before .before .rate .ensures) (c .before .before .before .before .put .ensures .0) (c .before .before .before .before .put .ensures .1) (c .before .close-slot .ensures) (c .before .before .before .before .before .before .before .before .before .before .before .before .before .before .before .before .before .before .before .before .before .before .fits .limit .fits) (c .if4 .taken)
 
 cell-take-back-requires : (t : ℕ) → cell-lts.Need-take-back-requires (cell-claims t) (cell-at t) cell.Post cell-Inv-loop cell-μ-loop
 cell-take-back-requires t c κs = search needs
 
-cell-returns-2 : (t : ℕ) → cell-lts.Need-returns-2 (cell-claims t) (cell-at t) cell.Post cell-Inv-loop cell-μ-loop
-cell-returns-2 t c =
-    ends (c .before .before .before .before .before .before .before .before .before .before .before .before .before .before .before .before .before .loop .inv) (c .before .before .before .before .before .before .before .before .before .before .before .before .before .before .before .before .loop-test .taken) (c .before .before .before .before .before .before .before .before .before .before .before .before .before .permitted .ensures) (c .before .before .before .before .before .before .before .before .before .before .before .before .if1 .taken) (c .before .before .before .before .before .before .before .before .before .before .wide2 .ensures .0) (c .before .before .before .before .before .before .before .before .before .before .wide2 .ensures .1) (c .before .before .before .before .before .before .before .before .before .if2 .taken) (c .before .before .before .before .before .before .before .before .if3 .left) (c .before .before .before .before .before .before .before .counter .ensures .0) (c .before .before .before .before .before .rate .ensures) (c .before .before .before .before .put .ensures .0) (c .before .before .before .before .put .ensures .1) (c .before .close-slot .ensures) (c .match .keys2)
+cell-cast-used : (t : ℕ) → cell-lts.Need-cast-used (cell-claims t) (cell-at t) cell.Post cell-Inv-loop cell-μ-loop
+cell-cast-used t c = search needs
 
 cell-add-task : (t : ℕ) → cell-lts.Need-add-task (cell-claims t) (cell-at t) cell.Post cell-Inv-loop cell-μ-loop
 cell-add-task t c = search needs
@@ -157,19 +163,28 @@ cell-loop-again t c =
     let more = c .before .before .before .before .loop-test .taken in
     let may = c .before .permitted .ensures in
     ⊎-elim
-    (λ w. turn-same (backs turn more may (w .0 .taken) (w .2 .ensures .0) (w .2 .ensures .1) (w .3 .taken) (w .4 .left) (w .5 .ensures .0) (w .7 .ensures) (w .8 .ensures .0) (w .8 .ensures .1) (w .11 .ensures) (w .13 .given .1) (w .15 .ensures)) (w .16) (w .17) (w .18) (w .19))
+    (λ w. turn-same (backs turn more may (w .0 .taken) (w .2 .ensures .0) (w .2 .ensures .1) (w .3 .taken) (w .4 .left) (w .5 .ensures .0) (w .7 .ensures) (w .8 .ensures .0) (w .8 .ensures .1) (w .11 .ensures) (w .12 .left) (w .14 .ensures)) (w .15) (w .16) (w .17) (w .18))
     (⊎-elim
     (λ w. turn-same (bars turn more may (w .0 .taken) (w .2 .ensures .0) (w .2 .ensures .1) (w .3 .left)) (w .4) (w .5) (w .6) (w .7))
     (λ w. turn-same (skips turn more may (w .0 .left)) (w .1) (w .2) (w .3) (w .4)))
     (c .if1 .came)
 
+cell-cast-result-2 : (t : ℕ) → cell-lts.Need-cast-result-2 (cell-claims t) (cell-at t) cell.Post cell-Inv-loop cell-μ-loop
+cell-cast-result-2 t c = search needs
+
 cell-returns-3 : (t : ℕ) → cell-lts.Need-returns-3 (cell-claims t) (cell-at t) cell.Post cell-Inv-loop cell-μ-loop
 cell-returns-3 t c =
-    idle-barred (c .before .before .loop .inv) (c .before .loop-test .left) (c .if4 .taken)
+    idle-barred (c .before .before .loop .inv) (c .before .loop-test .left) (c .if5 .taken)
+
+cell-cast-result-3 : (t : ℕ) → cell-lts.Need-cast-result-3 (cell-claims t) (cell-at t) cell.Post cell-Inv-loop cell-μ-loop
+cell-cast-result-3 t c = search needs
+
+cell-add-result-2 : (t : ℕ) → cell-lts.Need-add-result-2 (cell-claims t) (cell-at t) cell.Post cell-Inv-loop cell-μ-loop
+cell-add-result-2 t c = search needs
 
 cell-returns-4 : (t : ℕ) → cell-lts.Need-returns-4 (cell-claims t) (cell-at t) cell.Post cell-Inv-loop cell-μ-loop
 cell-returns-4 t c =
-    idle-stops (c .before .before .before .loop .inv) (c .before .before .loop-test .left) (omega (arith, c .before .if4 .left)) (c .if5 .taken)
+    idle-stops (c .before .before .before .loop .inv) (c .before .before .loop-test .left) (omega (arith, c .before .if5 .left)) (c .if6 .taken)
 
 cell-add-table-3 : (t : ℕ) → cell-lts.Need-add-table-3 (cell-claims t) (cell-at t) cell.Post cell-Inv-loop cell-μ-loop
 cell-add-table-3 t c =
@@ -187,11 +202,11 @@ cell-add-close-slot-4 t c = search needs
 
 cell-close-slot-requires-2 : (t : ℕ) → cell-lts.Need-close-slot-requires-2 (cell-claims t) (cell-at t) cell.Post cell-Inv-loop cell-μ-loop
 cell-close-slot-requires-2 t c κs =
-    let s = c .before .before .before .before .before .before .before .before .before .before in let f = s .pre .1 .0 in (omega (arith, s .pre .0, in-cells f _ (s .pre .1 .1)), (f, omega arith, omega (arith, s .pre .1 .1), omega (arith, c .before .before .before .before .before .loop .inv .most, c .before .before .if5 .left)))
+    let s = c .before .before .before .before .before .before .before .before .before .before in let f = s .pre .1 .0 in (omega (arith, s .pre .0, in-cells f _ (s .pre .1 .1)), (f, omega arith, omega (arith, s .pre .1 .1), omega (arith, c .before .before .before .before .before .loop .inv .most, c .before .before .if6 .left)))
 
 cell-returns-5 : (t : ℕ) → cell-lts.Need-returns-5 (cell-claims t) (cell-at t) cell.Post cell-Inv-loop cell-μ-loop
 cell-returns-5 t c =
-    idles (c .before .before .before .before .before .before .loop .inv) (c .before .before .before .before .before .loop-test .left) (omega (arith, c .before .before .before .before .if4 .left)) (c .before .before .before .if5 .left) (c .close-slot2 .ensures)
+    idles (c .before .before .before .before .before .before .loop .inv) (c .before .before .before .before .before .loop-test .left) (omega (arith, c .before .before .before .before .if5 .left)) (c .before .before .before .if6 .left) (c .close-slot2 .ensures)
 
 close-slot-element-copy-out-wide : (t : ℕ) → close-slot-lts.Need-element-copy-out-wide (close-slot-claims t) (close-slot-at t) close-slot.Post
 close-slot-element-copy-out-wide t c = search needs
@@ -220,7 +235,7 @@ close-slot-wide-requires-2 t c κs = search needs
 
 close-slot-add-cell : (t : ℕ) → close-slot-lts.Need-add-cell (close-slot-claims t) (close-slot-at t) close-slot.Post
 close-slot-add-cell t c =
-    let s = c .before .before .before .before .before .before .before .before .before .before .before in omega (arith, upto-table (s .pre .1 .0) _ (s .pre .1 .2))
+    let s = c .before .before .before .before .before .before .before .before .before .before in omega (arith, upto-table (s .pre .1 .0) _ (s .pre .1 .2))
 
 close-slot-add-cell-2 : (t : ℕ) → close-slot-lts.Need-add-cell-2 (close-slot-claims t) (close-slot-at t) close-slot.Post
 close-slot-add-cell-2 t c = search needs
@@ -233,6 +248,9 @@ close-slot-returns-2 : (t : ℕ) → close-slot-lts.Need-returns-2 (close-slot-c
 close-slot-returns-2 t c =
     next-slots (omega (arith, c .before .before .before .before .before .before .before .before .before .before .wide .ensures .0, c .before .before .before .before .before .before .before .before .before .if1 .left)) (c .before .before .before .before .before .before .before .closes .ensures) (c .before .before .before .before .before .before .if2 .taken) (omega (arith, c .before .before .before .before .wide2 .ensures .0, c .before .before .before .if3 .taken)) (c .cell2 .ensures)
 
+close-slot-add-result : (t : ℕ) → close-slot-lts.Need-add-result (close-slot-claims t) (close-slot-at t) close-slot.Post
+close-slot-add-result t c = search needs
+
 close-slot-returns-3 : (t : ℕ) → close-slot-lts.Need-returns-3 (close-slot-claims t) (close-slot-at t) close-slot.Post
 close-slot-returns-3 t c =
     founds (omega (arith, c .before .before .before .before .before .before .before .wide .ensures .0, c .before .before .before .before .before .before .if1 .left)) (c .before .before .before .before .closes .ensures) (c .before .before .before .if2 .taken) (omega (arith, c .before .wide2 .ensures .0, c .if3 .left)) (c .before .before .before .before .before .before .before .before .before .pre .1 .3)
@@ -242,24 +260,7 @@ close-slot-returns-4 t c =
     starved (omega (arith, c .before .before .before .before .wide .ensures .0, c .before .before .before .if1 .left)) (c .before .closes .ensures) (c .if2 .left) (c .before .before .before .before .before .before .pre .1 .3)
 
 pub +cell+close-slot-spec : {M : Type 1} → statement M
-+cell+close-slot-spec = close μ-cell μ-close-slot (λ t. cell-lts.spec (
-  wide-reads.Asked,
-  wide-reads.Learnt,
-  floor-reads.Asked,
-  floor-reads.Learnt,
-  permitted-reads.Asked,
-  permitted-reads.Learnt,
-  counter-reads.Asked,
-  counter-reads.Learnt,
-  rate-reads.Asked,
-  rate-reads.Learnt,
-  put-reads.Asked,
-  put-reads.Learnt,
-  close-slot-below t,
-  close-slot.Post,
-  take-back-reads.Asked,
-  take-back-reads.Learnt,
-)
++cell+close-slot-spec = close μ-cell μ-close-slot (λ t. cell-lts.spec (cell-claims t)
     (cell-at t)
     cell.Post
     cell-Inv-loop
@@ -275,6 +276,8 @@ pub +cell+close-slot-spec : {M : Type 1} → statement M
     (cell-wide-requires-2 t)
     (cell-add-barred t)
     (cell-add-if2 t)
+    (cell-cast-result t)
+    (cell-add-result t)
     (cell-returns t)
     (cell-counter-requires t)
     (cell-rate-requires t)
@@ -286,13 +289,16 @@ pub +cell+close-slot-spec : {M : Type 1} → statement M
     (cell-add-close-slot t)
     (cell-add-close-slot-2 t)
     (cell-close-slot-requires t)
-    (cell-enum-told t)
-    (cell-take-back-requires t)
     (cell-returns-2 t)
+    (cell-take-back-requires t)
+    (cell-cast-used t)
     (cell-add-task t)
     (cell-loop-less t)
     (cell-loop-again t)
+    (cell-cast-result-2 t)
     (cell-returns-3 t)
+    (cell-cast-result-3 t)
+    (cell-add-result-2 t)
     (cell-returns-4 t)
     (cell-add-table-3 t)
     (cell-element-write-table-2 t)
@@ -300,14 +306,7 @@ pub +cell+close-slot-spec : {M : Type 1} → statement M
     (cell-add-close-slot-4 t)
     (cell-close-slot-requires-2 t)
     (cell-returns-5 t))
-    λ t. close-slot-lts.spec (
-      wide-reads.Asked,
-      wide-reads.Learnt,
-      cell-below t,
-      cell.Post,
-      closes-reads.Asked,
-      closes-reads.Learnt,
-    )
+    λ t. close-slot-lts.spec (close-slot-claims t)
     (close-slot-at t)
     close-slot.Post
     (close-slot-element-copy-out-wide t)
@@ -322,5 +321,6 @@ pub +cell+close-slot-spec : {M : Type 1} → statement M
     (close-slot-add-cell-2 t)
     (close-slot-cell-requires-2 t)
     (close-slot-returns-2 t)
+    (close-slot-add-result t)
     (close-slot-returns-3 t)
     (close-slot-returns-4 t)

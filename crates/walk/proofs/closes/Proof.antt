@@ -1,18 +1,14 @@
 use borrow.Author.Tests.{not-true, not-false}
-use Prim.Native.Nat.{ℕ, _+_, _-_, _≤_, _<_}
-use mathlib.Core.Path.{_≡_, refl, sym, ap, _∙_}
+use Prim.Native.Nat.{ℕ, _-_, _≤_, _<_}
+use mathlib.Core.Path.{_≡_, sym, _∙_}
 use native.Mathlib.Omega.{arith}
-use mathlib.Core.Bool.{true, false}
+use mathlib.Core.Bool.{true}
 use borrow.Author.Count.{below-none, below-more}
 use Rattle.walk.specs.Machine.{tasksOn, settledOn}
 use Rattle.walk.proofs.MachineLaws.{closes-not, closes-yes}
 use borrow.Author.Needs.{needs}
 use Rattle.walk.proofs.closes.Statement.{statement}
 use Rattle.walk.proofs.closes.Tie as tie
-use Rattle.walk.proofs.closes.Reads as reads
-use Rattle.walk.proofs.closes.Lts as lts
-use Rattle.walk.proofs.settled.Reads as settled-reads
-use Rattle.walk.proofs.wide.Reads as wide-reads
 
 abbrev Inv-loop : tie.InvT-loop
 Inv-loop board left slot n task₀ task = (task ≤ n) × (n ≡ tasksOn board) × ((v : ℕ) → v < task → settledOn board left slot v ≡ true)
@@ -20,39 +16,30 @@ Inv-loop board left slot n task₀ task = (task ≤ n) × (n ≡ tasksOn board) 
 abbrev μ-loop : tie.MeasureT-loop
 μ-loop board left slot n task₀ task = n - task
 
--- src/lib.rt:143:18
 element-copy-out-wide : tie.Need-element-copy-out-wide Inv-loop μ-loop
 element-copy-out-wide c = search needs
 
--- src/lib.rt:143:9
 wide-requires : tie.Need-wide-requires Inv-loop μ-loop
 wide-requires c κs = search needs
 
--- src/lib.rt:145:5
 loop-holds : tie.Need-loop-holds Inv-loop μ-loop
 loop-holds c = (search needs, search needs, below-none _)
 
--- src/lib.rt:146:13
 settled-requires : tie.Need-settled-requires Inv-loop μ-loop
 settled-requires c κs = search needs
 
--- src/lib.rt:147:13
 returns : tie.Need-returns Inv-loop μ-loop
 returns c = closes-not _ _ _ _ _ (omega arith) (c .before .settled .ensures) (not-true _ (c .if1 .taken))
 
--- src/lib.rt:149:9
 add-task : tie.Need-add-task Inv-loop μ-loop
 add-task c = search needs
 
--- src/lib.rt:145:5
 loop-less : tie.Need-loop-less Inv-loop μ-loop
 loop-less c = search needs
 
--- src/lib.rt:145:5
 loop-again : tie.Need-loop-again Inv-loop μ-loop
 loop-again c = (search needs, search needs, below-more _ _ (c .before .before .before .loop .inv .2) (sym (c .before .settled .ensures) ∙ not-false _ (c .if1 .left)))
 
--- src/lib.rt:139:1
 returns-2 : tie.Need-returns-2 Inv-loop μ-loop
 returns-2 c = closes-yes _ _ _ _ (c .before .loop .inv .1) (λ v l. c .before .loop .inv .2 v (omega arith))
 

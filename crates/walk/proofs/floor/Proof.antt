@@ -1,5 +1,5 @@
-use Prim.Native.Nat.{ℕ, _+_, _-_, _≤_, _<_}
-use mathlib.Core.Path.{_≡_, refl, sym, ap, _∙_}
+use Prim.Native.Nat.{_-_, _≤_}
+use mathlib.Core.Path.{_≡_}
 use native.Mathlib.Omega.{arith}
 use mathlib.Core.Logic.{⊎-elim}
 use Rattle.walk.specs.Machine.{most as mostOf, twinRankOn}
@@ -7,9 +7,6 @@ use Rattle.walk.proofs.MachineLaws.{most-none, most-next, floor-is}
 use borrow.Author.Needs.{needs}
 use Rattle.walk.proofs.floor.Statement.{statement}
 use Rattle.walk.proofs.floor.Tie as tie
-use Rattle.walk.proofs.floor.Reads as reads
-use Rattle.walk.proofs.floor.Lts as lts
-use Rattle.walk.proofs.twin_rank.Reads as twin-rank-reads
 
 abbrev Inv-loop : tie.InvT-loop
 Inv-loop board table first core most₀ j₀ most j = (j ≤ core) × (most ≡ mostOf j (twinRankOn board table first core)) × (most ≤ 65536)
@@ -17,29 +14,23 @@ Inv-loop board table first core most₀ j₀ most j = (j ≤ core) × (most ≡ 
 abbrev μ-loop : tie.MeasureT-loop
 μ-loop board table first core most₀ j₀ most j = core - j
 
--- src/lib.rt:116:5
 loop-holds : tie.Need-loop-holds Inv-loop μ-loop
 loop-holds c = (search needs, most-none _, search needs)
 
--- src/lib.rt:117:13
 twin-rank-requires : tie.Need-twin-rank-requires Inv-loop μ-loop
 twin-rank-requires c κs = search needs
 
--- src/lib.rt:121:9
 add-j : tie.Need-add-j Inv-loop μ-loop
 add-j c = search needs
 
--- src/lib.rt:116:5
 loop-less : tie.Need-loop-less Inv-loop μ-loop
 loop-less c = search needs
 
--- src/lib.rt:116:5
 loop-again : tie.Need-loop-again Inv-loop μ-loop
 loop-again c =
     let up = most-next _ _ _ _ (c .if1 .most) (c .before .before .before .loop .inv .1) (c .before .twin-rank .ensures .0) in
     ⊎-elim (λ w. (omega arith, up (omega arith), omega arith)) (λ w. (omega arith, up (omega arith), omega arith)) (c .if1 .came)
 
--- src/lib.rt:110:1
 returns : tie.Need-returns Inv-loop μ-loop
 returns c = floor-is _ _ _ _ (c .before .loop .j) _ (omega arith) (c .before .loop .inv .1)
 

@@ -1,5 +1,5 @@
 use Prim.Native.Nat.{ℕ, _+_, _-_, _≤_, _<_}
-use mathlib.Core.Path.{_≡_, refl, sym, ap, _∙_}
+use mathlib.Core.Path.{_≡_}
 use native.Mathlib.Omega.{arith}
 use borrow.Author.Count.{below-more}
 use Rattle.laws.specs.Lists.{nth}
@@ -7,8 +7,6 @@ use Rattle.walk.proofs.MachineLaws.{free-not, free-yes}
 use borrow.Author.Needs.{needs}
 use Rattle.walk.proofs.free.Statement.{statement}
 use Rattle.walk.proofs.free.Tie as tie
-use Rattle.walk.proofs.free.Reads as reads
-use Rattle.walk.proofs.free.Lts as lts
 
 abbrev Inv-loop : tie.InvT-loop
 Inv-loop table first core value j₀ j = (j ≤ core) × ((k : ℕ) → k < j → nth table (first + k) ≡ value → ⊥)
@@ -16,35 +14,27 @@ Inv-loop table first core value j₀ j = (j ≤ core) × ((k : ℕ) → k < j �
 abbrev μ-loop : tie.MeasureT-loop
 μ-loop table first core value j₀ j = core - j
 
--- src/lib.rt:45:5
 loop-holds : tie.Need-loop-holds Inv-loop μ-loop
 loop-holds c = search needs
 
--- src/lib.rt:46:18
 add-if1 : tie.Need-add-if1 Inv-loop μ-loop
 add-if1 c = search needs
 
--- src/lib.rt:46:12
 element-copy-out-if1 : tie.Need-element-copy-out-if1 Inv-loop μ-loop
 element-copy-out-if1 c = search needs
 
--- src/lib.rt:47:13
 returns : tie.Need-returns Inv-loop μ-loop
 returns c = free-not _ _ _ _ (c .before .before .before .loop .j) (c .before .before .loop-test .taken) (c .if1 .taken)
 
--- src/lib.rt:49:9
 add-j : tie.Need-add-j Inv-loop μ-loop
 add-j c = search needs
 
--- src/lib.rt:45:5
 loop-less : tie.Need-loop-less Inv-loop μ-loop
 loop-less c = search needs
 
--- src/lib.rt:45:5
 loop-again : tie.Need-loop-again Inv-loop μ-loop
 loop-again c = (search needs, below-more _ _ (c .before .before .before .loop .inv .1) (c .if1 .left))
 
--- src/lib.rt:40:1
 returns-2 : tie.Need-returns-2 Inv-loop μ-loop
 returns-2 c = free-yes _ _ _ _ (λ k l. c .before .loop .inv .1 k (omega arith))
 

@@ -2,49 +2,34 @@ use Rattle.walk.proofs.MachineLaws.{not-rated, not-left, if-free}
 use borrow.Author.Needs.{needs}
 use Rattle.walk.proofs.permitted.Statement.{statement}
 use Rattle.walk.proofs.permitted.Tie as tie
-use Rattle.walk.proofs.permitted.Reads as reads
-use Rattle.walk.proofs.permitted.Lts as lts
-use Rattle.walk.proofs.counter.Reads as counter-reads
-use Rattle.walk.proofs.free.Reads as free-reads
-use Rattle.walk.proofs.rate.Reads as rate-reads
 
--- src/lib.rt:90:9
 rate-requires : tie.Need-rate-requires
 rate-requires c κs = search needs
 
--- src/lib.rt:92:9
 returns : tie.Need-returns
 returns c = not-rated _ _ _ _ _ _ _ _ 0 (c .before .rate .ensures) (c .if1 .taken)
 
--- src/lib.rt:94:21
 counter-requires : tie.Need-counter-requires
 counter-requires c κs = search needs
 
--- src/lib.rt:94:16
 mul-have : tie.Need-mul-have
 mul-have c = search needs
 
--- src/lib.rt:94:16
 element-copy-out-have : tie.Need-element-copy-out-have
 element-copy-out-have c = search needs
 
--- src/lib.rt:96:9
 returns-2 : tie.Need-returns-2
 returns-2 c = not-left _ _ _ _ _ _ _ _ _ (c .before .before .before .before .rate .ensures) (c .before .before .before .if1 .left) (c .before .before .counter .ensures .0) (c .if2 .taken)
 
--- src/lib.rt:98:31
 add-free : tie.Need-add-free
 add-free c = search needs
 
--- src/lib.rt:98:30
 cast-free : tie.Need-cast-free
 cast-free c = search needs
 
--- src/lib.rt:98:5
 free-requires : tie.Need-free-requires
 free-requires c κs = search needs
 
--- src/lib.rt:78:1
 returns-3 : tie.Need-returns-3
 returns-3 c = if-free _ _ _ _ _ _ _ _ _ (c .before .before .before .before .before .rate .ensures) (c .before .before .before .before .if1 .left) (c .before .before .before .counter .ensures .0) (c .before .if2 .left) _ (c .free .ensures)
 

@@ -2,43 +2,31 @@ use Rattle.walk.proofs.MachineLaws.{settled-open, settled-end}
 use borrow.Author.Needs.{needs}
 use Rattle.walk.proofs.settled.Statement.{statement}
 use Rattle.walk.proofs.settled.Tie as tie
-use Rattle.walk.proofs.settled.Reads as reads
-use Rattle.walk.proofs.settled.Lts as lts
-use Rattle.walk.proofs.counter.Reads as counter-reads
 
--- src/lib.rt:131:23
 mul-entry : tie.Need-mul-entry
 mul-entry c = search needs
 
--- src/lib.rt:131:23
 add-entry : tie.Need-add-entry
 add-entry c = search needs
 
--- src/lib.rt:131:17
 mul-entry-2 : tie.Need-mul-entry-2
 mul-entry-2 c = search needs
 
--- src/lib.rt:131:17
 element-copy-out-entry : tie.Need-element-copy-out-entry
 element-copy-out-entry c = search needs
 
--- src/lib.rt:133:9
 returns : tie.Need-returns
 returns c = settled-open _ _ _ _ (c .if1 .taken)
 
--- src/lib.rt:135:10
 counter-requires : tie.Need-counter-requires
 counter-requires c κs = search needs
 
--- src/lib.rt:135:5
 mul-result : tie.Need-mul-result
 mul-result c = search needs
 
--- src/lib.rt:135:5
 element-copy-out-result : tie.Need-element-copy-out-result
 element-copy-out-result c = search needs
 
--- src/lib.rt:127:1
 returns-2 : tie.Need-returns-2
 returns-2 c = settled-end _ _ _ _ _ (c .before .before .if1 .left) (c .before .counter .ensures .0)
 

@@ -2,64 +2,46 @@ use Rattle.walk.proofs.MachineLaws.{twin-none, twin-idle, twin-task}
 use borrow.Author.Needs.{needs}
 use Rattle.walk.proofs.twin_rank.Statement.{statement}
 use Rattle.walk.proofs.twin_rank.Tie as tie
-use Rattle.walk.proofs.twin_rank.Reads as reads
-use Rattle.walk.proofs.twin_rank.Lts as lts
-use Rattle.walk.proofs.byte.Reads as byte-reads
-use Rattle.walk.proofs.wide.Reads as wide-reads
 
--- src/lib.rt:106:23
 mul-if1 : tie.Need-mul-if1
 mul-if1 c = search needs
 
--- src/lib.rt:106:23
 add-if1 : tie.Need-add-if1
 add-if1 c = search needs
 
--- src/lib.rt:106:14
 add-if1-2 : tie.Need-add-if1-2
 add-if1-2 c = search needs
 
--- src/lib.rt:106:8
 mul-if1-2 : tie.Need-mul-if1-2
 mul-if1-2 c = search needs
 
--- src/lib.rt:106:8
 element-copy-out-if1 : tie.Need-element-copy-out-if1
 element-copy-out-if1 c = search needs
 
--- src/lib.rt:107:9
 returns : tie.Need-returns
 returns c = (twin-none _ _ _ _ _ (c .if1 .taken), search needs)
 
--- src/lib.rt:109:23
 add-value : tie.Need-add-value
 add-value c = search needs
 
--- src/lib.rt:109:17
 element-copy-out-value : tie.Need-element-copy-out-value
 element-copy-out-value c = search needs
 
--- src/lib.rt:111:21
 element-copy-out-wide : tie.Need-element-copy-out-wide
 element-copy-out-wide c = search needs
 
--- src/lib.rt:111:16
 wide-requires : tie.Need-wide-requires
 wide-requires c κs = search needs
 
--- src/lib.rt:111:16
 add-result : tie.Need-add-result
 add-result c = search needs
 
--- src/lib.rt:111:9
 returns-2 : tie.Need-returns-2
 returns-2 c = (twin-idle _ _ _ _ _ _ (c .before .before .before .before .if1 .left) (c .before .before .if2 .taken) (c .wide .ensures .0), search needs)
 
--- src/lib.rt:113:5
 byte-requires : tie.Need-byte-requires
 byte-requires c κs = search needs
 
--- src/lib.rt:102:1
 returns-3 : tie.Need-returns-3
 returns-3 c = (twin-task _ _ _ _ _ _ (c .before .before .before .if1 .left) (c .before .if2 .left) (c .byte .ensures .0), search needs)
 
