@@ -9,8 +9,8 @@ ghost use lib.Dec.{leb};
 ghost use Rattle.frames.specs.Write.{Written};
 ghost use Rattle.planner.specs.Answer.{answerTo};
 ghost use Rattle.exports.specs.Packed.{listed, SearchedAs, packedAs, checkedAs};
-use tasks::TaskList;
 use checker::Verdict;
+use tasks::TaskList;
 
 // The search of n tasks, each number in an array of its own, and four rates a task: verdict * 2^32 + tries.
 #[no_mangle]

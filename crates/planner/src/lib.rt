@@ -19,14 +19,8 @@ fn table_size(list: TaskList, m: u8) -> Size
 {
     let soundness = tasks::test_list(list, m);
     match soundness {
-        Soundness::Sound(h) => Size {
-            slots: h.0,
-            m,
-        },
-        Soundness::Refused(_) => Size {
-            slots: 0,
-            m: 0,
-        },
+        Soundness::Sound(h) => Size { slots: h.0, m },
+        Soundness::Refused(_) => Size { slots: 0, m: 0 },
     }
 }
 
@@ -42,5 +36,12 @@ pub fn plan_text(text: &[u8], out: &mut [u8]) -> usize
     let list = problem.list;
     let size = table_size(list, problem.m);
     let answer = search::search(list, problem.m, problem.engine, problem.limit, &mut table);
-    frames::write_answer(answer.verdict, answer.tries, size.slots, size.m, &table, out)
+    frames::write_answer(
+        answer.verdict,
+        answer.tries,
+        size.slots,
+        size.m,
+        &table,
+        out,
+    )
 }
