@@ -22,9 +22,6 @@ pub enum Verdict {
     Refused(u8),
 }
 
-// The refusal of a buffer shorter than H × m.
-pub const SHORT_BUFFER: u8 = 10;
-
 // The kinds of fault, by 01's numbers.
 pub const UNKNOWN_TASK: u8 = 1;
 
@@ -188,7 +185,7 @@ pub fn check_table(list: TaskList, m: u8, table: &[u8]) -> Verdict
         Soundness::Refused(number) => Verdict::Refused(number),
         Soundness::Sound(len) => {
             if table.len() < (len.0 as usize) * (m as usize) {
-                return Verdict::Refused(SHORT_BUFFER);
+                return Verdict::Refused(tasks::BAD_BUFFER);
             }
             let mut done: [u16; 16384] = [0; 16384];
             let cells = scan_cells(list, len, m, table, &mut done);

@@ -265,11 +265,6 @@ pub struct Answer {
     pub tries: u32,
 }
 
-// What a search refuses by, besides the list.
-const BAD_ENGINE: u8 = 9;
-
-const BAD_BUFFER: u8 = 10;
-
 // How a walk ends, by 01's numbers.
 const FOUND: u8 = 0;
 
@@ -331,10 +326,10 @@ pub fn search(list: TaskList, m: u8, engine: u8, limit: u32, table: &mut [u8]) -
         Soundness::Refused(number) => refused(number),
         Soundness::Sound(len) => {
             if 1 < engine {
-                return refused(BAD_ENGINE);
+                return refused(tasks::BAD_ENGINE);
             }
             if table.len() < len.0 as usize * m as usize {
-                return refused(BAD_BUFFER);
+                return refused(tasks::BAD_BUFFER);
             }
             walk_list(list, m, engine, limit, len, table)
         }

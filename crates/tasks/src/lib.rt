@@ -34,7 +34,7 @@ pub const MAX_WORK: u16 = 4096;
 
 pub const MAX_RATE: u8 = 15;
 
-// The refusals of a task list, by 01's numbers.
+// The refusals of a list, of an engine and of a table buffer, by 01's numbers.
 pub const BAD_COUNT: u8 = 1;
 
 pub const BAD_CORES: u8 = 2;
@@ -50,6 +50,10 @@ pub const BAD_OFFSET: u8 = 6;
 pub const BAD_RATE: u8 = 7;
 
 pub const BAD_LENGTH: u8 = 8;
+
+pub const BAD_ENGINE: u8 = 9;
+
+pub const BAD_BUFFER: u8 = 10;
 
 // A task list as numbers: n tasks, field by field, and four rates a task. Any n above 16 stands for too many.
 pub struct TaskList {
