@@ -25,6 +25,9 @@ use Rattle.tasks.specs.Refusal.{unless, orNext, refusal, tableLength, IsSound, 
 use Rattle.tasks.specs.Instance.{instanceOf}
 use Rattle.tasks.proofs.SoundLaws.{rows-length, rows-task, sound-list, soundness-sound, soundness-refused}
 use Rattle.table.specs.Fault.{Fault, checkedIf, check}
+use Rattle.checker.specs.declared.Verdict.{Verdict}
+use Rattle.checker.specs.declared.Verdict.the-variants.{Valid, Cell, Job, Refused as Told}
+use Rattle.checker.specs.Checks.{toldOf}
 use Rattle.player.specs.declared.Player.{Player}
 use Rattle.player.specs.declared.Next.{Next}
 use Rattle.player.specs.declared.Shown.{Shown}
@@ -152,3 +155,25 @@ pub first-is : (p : Player) (v : ℕ) (x : Next) (s : Shown) → (v ≡ 0 → p 
 unfolding answerOf cellsOf tab
 first-is p zero x s h q e = e ∙ rw (q, h refl, zero-mul, zero-add)
 first-is p (suc v) x s h q e = e ∙ rw q
+
+-- ---- the checker's answer, as a number
+module _ (m : ℕ) (ts : List Task) (t : List ℕ) (r : Verdict) (told : toldOf r ≡ check m ts t) where
+  -- the table is valid
+  pub told-valid : r ≡ Valid → 0 ≡ startRefusal m ts t
+  unfolding toldOf
+  told-valid e = sym (ap (λ v. checkRefusal (toldOf v)) e) ∙ ap checkRefusal told
+
+  -- a cell is faulty
+  pub told-cell : {s j k : ℕ} → r ≡ Cell s j k → 11 ≡ startRefusal m ts t
+  unfolding toldOf
+  told-cell e = sym (ap (λ v. checkRefusal (toldOf v)) e) ∙ ap checkRefusal told
+
+  -- a job is faulty
+  pub told-job : {i k x : ℕ} → r ≡ Job i k x → 11 ≡ startRefusal m ts t
+  unfolding toldOf
+  told-job e = sym (ap (λ v. checkRefusal (toldOf v)) e) ∙ ap checkRefusal told
+
+  -- the problem or the table's length is refused
+  pub told-refused : {k : ℕ} → r ≡ Told k → k ≡ startRefusal m ts t
+  unfolding toldOf
+  told-refused e = sym (ap (λ v. checkRefusal (toldOf v)) e) ∙ ap checkRefusal told

@@ -1,11 +1,12 @@
-// The player: its record, a step, and the record that a start makes.
+// The player: its record, a start and a step.
 ghost use mathlib.Core.Path.{_≡_};
 ghost use Prim.Native.Nat.{_+_, _-_, _^_, _≤_, _<_, min, pred};
 ghost use lib.ListN.{length, replicate};
 ghost use mathlib.Core.List.{[], _∷_};
 ghost use Rattle.laws.specs.Lists.{nth};
 ghost use Rattle.tasks.specs.Task.{rows};
-ghost use Rattle.player.specs.Player.{elapsedOf, numbers, stepRefusal, stepped, afterStep, staysOf, nextOf, shownCell, cellOf, answerOf, padded, Startable, startRefusal, recordOf, afterStart};
+ghost use Rattle.player.specs.Player.{elapsedOf, numbers, stepRefusal, stepped, afterStep, staysOf, nextOf, shownCell, cellOf, answerOf, padded, Startable, startRefusal, recordOf, firstShown, started, afterStart};
+use checker::Verdict;
 use tasks::MAX_CORES;
 use tasks::MAX_SLOTS;
 use tasks::MAX_TASKS;
@@ -31,6 +32,12 @@ pub struct Shown {
     pub missed: u32,
 }
 
+// The record after a start, and what the start answers.
+pub struct Started {
+    pub player: Player,
+    pub shown: Shown,
+}
+
 // What a step works out of the record's numbers: what it stores, the slots missed, where the slot's cells begin in the table, and its verdict.
 pub struct Next {
     pub last: u32,
@@ -40,6 +47,9 @@ pub struct Next {
     pub age: u16,
     pub verdict: u8,
 }
+
+// The verdict of a start whose table is not valid, by 01's number.
+pub const INVALID: u8 = 11;
 
 // The verdicts of a step, by 01's numbers.
 pub const SPOILT: u8 = 12;
@@ -274,15 +284,67 @@ fn record_of(list: TaskList, h: u16, m: u8, table: &[u8], tick: u32) -> Player
 }
 
 // The record after a start, by the number that the checker's answer gives; a refused start leaves it as it was.
-fn begin(p: Player, verdict: u8, list: TaskList, m: u8, table: &[u8], tick: u32) -> Player
-    requires { ⌜ verdict ≡ startRefusal m (rows list) (now table) ⌝ }
+fn begin(p: Player, number: u8, list: TaskList, m: u8, table: &[u8], tick: u32) -> Player
+    requires { ⌜ number ≡ startRefusal m (rows list) (now table) ⌝ }
     ensures { λ r. ⌜ r ≡ afterStart m (rows list) (now (table .entry)) tick p ⌝ }
 {
-    if verdict != 0 {
+    if number != 0 {
         return p;
     }
     match tasks::test_list(list, m) {
         Soundness::Sound(h) => record_of(list, h.0, m, table, tick),
         Soundness::Refused(_) => p,
     }
+}
+
+// Refusals 1 to 8, 10 and 11, in that order; 0 if there is none.
+fn verdict_of(list: TaskList, m: u8, table: &[u8]) -> u8
+    ensures { λ r. ⌜ r ≡ startRefusal m (rows list) (now (table .entry)) ⌝ }
+{
+    let told = checker::check_table(list, m, table);
+    match told {
+        Verdict::Valid => 0,
+        Verdict::Cell(_, _, _) => INVALID,
+        Verdict::Job(_, _, _) => INVALID,
+        Verdict::Refused(number) => number,
+    }
+}
+
+// What a start answers of the record that it leaves: the cells of slot 0, unless it is refused.
+fn first_shown(p: Player, verdict: u8) -> Shown
+    requires { ⌜ (verdict ≡ 0 → p .position ≡ 0) ⌝ }
+    ensures { λ r. ⌜ r ≡ firstShown p verdict ⌝ }
+{
+    let offsets = p.offsets;
+    let table = p.table;
+    let next = stays(p.last, p.position, p.age, verdict);
+    answer(
+        next,
+        p.m,
+        p.n,
+        offsets,
+        table[0],
+        table[1],
+        table[2],
+        table[3],
+    )
+}
+
+// A start on a record by value.
+pub fn start_record(p: Player, list: TaskList, m: u8, table: &[u8], tick: u32) -> Started
+    ensures { λ r. ⌜ (r .shown ≡ started m (rows list) (now (table .entry)) tick) × (r .player ≡ afterStart m (rows list) (now (table .entry)) tick p) ⌝ }
+{
+    let verdict = verdict_of(list, m, table);
+    let player = begin(p, verdict, list, m, table, tick);
+    let shown = first_shown(player, verdict);
+    Started { player, shown }
+}
+
+// A start: the record is copied out, and the one that the start leaves is stored where it stands.
+pub fn start(p: &mut Player, list: TaskList, m: u8, table: &[u8], tick: u32) -> Shown
+    ensures { λ r. ⌜ (r ≡ started m (rows list) (now (table .entry)) tick) × (now (p .exit) ≡ afterStart m (rows list) (now (table .entry)) tick (now (p .entry))) ⌝ }
+{
+    let s = start_record(*p, list, m, table, tick);
+    *p = s.player;
+    s.shown
 }

@@ -9,10 +9,9 @@ mod proved;
 
 use second::check::{first_fault, Fault};
 use second::frames::{plan_text, problem_text};
-use second::player::{start, step};
 use second::random::Random;
 use second::tasks::Problem;
-use second::verdict::{Ending, Refusal};
+use second::verdict::Ending;
 use second::walk::search;
 use second::{brute, lists};
 use std::collections::BTreeMap;
@@ -42,7 +41,6 @@ fn main() -> ExitCode {
         let problem = lists::problem(&mut random);
         compare_search(&mut random, &mut tally, &problem);
         compare_check(&mut random, &mut tally, &problem);
-        compare_player(&mut random, &mut tally, &problem);
         if list % TINY == 0 {
             compare_brute(&mut random, &mut tally);
         }
@@ -96,10 +94,6 @@ struct Tally {
 }
 
 impl Tally {
-    fn count(&mut self, what: &'static str, number: u32) {
-        *self.seen.entry((what, number)).or_default() += 1;
-    }
-
     /// Counts an answer under its number, and whether the proved one differs. The first difference
     /// is shown, with what was asked.
     fn hold<Answer: PartialEq + Debug>(
@@ -109,7 +103,7 @@ impl Tally {
         proved: Answer,
         asked: impl FnOnce() -> String,
     ) {
-        self.count(what, number);
+        *self.seen.entry((what, number)).or_default() += 1;
         if ordinary != proved {
             self.differences += 1;
             if self.differences == 1 {
@@ -198,26 +192,6 @@ fn compare_check(random: &mut Random, tally: &mut Tally, problem: &Problem) {
     tally.hold((what, answer[3].into()), answer, proved, || {
         format!("{}table {table:?}", shown(problem))
     });
-}
-
-/// Starts the player and lets it step; after a refused start it steps with a random record.
-///
-/// The proved player is not linked yet. Its start and its step belong into the two marked places,
-/// each on a copy of the record made just before; then answers and records are held together.
-fn compare_player(random: &mut Random, tally: &mut Tally, problem: &Problem) {
-    let verdict = |refused: Option<Refusal>| refused.map_or(0, |refusal| refusal as u32);
-    let table = lists::table(random, problem);
-    let tick = lists::tick(random);
-    let mut record = lists::record(random);
-    let started = start(problem, &table, tick, &mut record);
-    // PLACE FOR THE PROVED START: problem, table, tick.
-    tally.count("start, verdict", verdict(started.err()));
-    for _ in 0..3 {
-        let tick = record.last.wrapping_add(lists::elapsed(random, record.h));
-        let stepped = step(&mut record, tick);
-        // PLACE FOR THE PROVED STEP: tick.
-        tally.count("step, verdict", verdict(stepped.err()));
-    }
 }
 
 /// Holds the answer to a text against that of the library or a program.
