@@ -17,6 +17,7 @@ abbrev pub sizeIf : Bool → ℕ → ℕ → Size
 sizeIf true h m = record { slots = h; m = m }
 sizeIf false h m = record { slots = 0; m = 0 }
 
+-- the size of a list's table
 unfoldable pub sizeOf : ℕ → List Task → Size
 sizeOf m ts = sizeIf (eqb (refusal m ts) 0) (tableLength ts) m
 

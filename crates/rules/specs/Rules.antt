@@ -16,6 +16,7 @@ use Rattle.rules.specs.Walk.{Rule}
 abbrev pub values : Instance → List ℕ
 values P = upTo (P .tasks) 1
 
+-- the place of a value in that order
 abbrev pub rank : Instance → ℕ → ℕ
 rank P = rankOf (P .tasks)
 
@@ -55,6 +56,7 @@ twin P a b = all (P .tasks) (λ i. eqb (P .rate (suc i) a) (P .rate (suc i) b))
 unfoldable pub idleTried : Instance → ℕ → (ℕ → ℕ) → Bool
 idleTried P c f = all (P .tasks) (λ i. imp (permitted P c f (suc i)) (not (evenRates P (suc i))))
 
+-- rule A bears on idle alone
 unfoldable pub ruleA : Instance → ℕ → (ℕ → ℕ) → ℕ → Bool
 ruleA P c f zero = idleTried P c f
 ruleA P c f (suc v) = true
@@ -67,5 +69,6 @@ ruleB P c f v = all (coreOf P c) (λ j. imp (twin P j (coreOf P c)) (leb (rank P
 unfoldable pub quickly : Instance → ℕ → (ℕ → ℕ) → ℕ → Bool
 quickly P c f v = every (permitted P c f v ∷ ruleA P c f v ∷ ruleB P c f v ∷ [])
 
+-- the quick walk, as a rule
 abbrev pub quick : Instance → Rule
 quick P = record { tried = λ p. quickly P (length p) (nth p); closes = plain P .closes; cost = λ p v. 1 }

@@ -62,6 +62,7 @@ pub data Checked : Type 0 where
   refused : ℕ → Checked
   checked : Fault → Checked
 
+-- the refusal, if it is not 0, else the first fault
 abbrev pub checkedIf : ℕ → Fault → Checked
 checkedIf zero x = checked x
 checkedIf (suc r) x = refused (suc r)

@@ -76,6 +76,7 @@ abbrev pub fitsIf : Bool → ℕ → Length
 fitsIf true h = Fits (record { 0 = h })
 fitsIf false h = TooLong
 
+-- what the code answers of a table's length
 unfoldable pub lengthOf : List Task → Length
 lengthOf ts = fitsIf (leb (tableLength ts) 1024) (tableLength ts)
 
@@ -84,6 +85,7 @@ abbrev pub soundIf : Bool → ℕ → ℕ → Soundness
 soundIf true r h = Sound (record { 0 = h })
 soundIf false r h = Refused r
 
+-- that answer for a list and m cores
 unfoldable pub soundnessOf : ℕ → List Task → Soundness
 soundnessOf m ts = soundIf (eqb (refusal m ts) 0) (refusal m ts) (tableLength ts)
 

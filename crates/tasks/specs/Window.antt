@@ -43,6 +43,7 @@ abbrev pub openIf : Bool → ℕ → Window
 openIf true k = Open k
 openIf false k = Closed
 
+-- that answer for a task in slot t
 unfoldable pub windowAt : ℕ → Task → ℕ → Window
 windowAt L τ t = openIf (isOpen L (τ .offset .0) (τ .deadline .0) (τ .period .0) t) (jobAt L (τ .offset .0) (τ .period .0) t)
 

@@ -20,28 +20,35 @@ unfoldable pub most : ℕ → (ℕ → ℕ) → ℕ
 most zero g = 0
 most (suc n) g = max (most n g) (g n)
 
--- what stands on the board
+-- the board: twice the counter of the job of task v in a slot, and 1 more if this is its highest-numbered slot
 abbrev pub entryOn : List ℕ → ℕ → ℕ → ℕ
 entryOn board slot v = nth board (slot * 16 + v)
 
+-- the rate of task v on a core
 abbrev pub rateOn : List ℕ → ℕ → ℕ → ℕ
 rateOn board v core = nth board (16384 + (v * 4 + core))
 
+-- 1 if all positive rates of task v are equal, else 0
 abbrev pub evenOn : List ℕ → ℕ → ℕ
 evenOn board v = nth board (16448 + v)
 
+-- not 0 if the core and core j are twins
 abbrev pub twinOn : List ℕ → ℕ → ℕ → ℕ
 twinOn board core j = nth board (16464 + (core * 4 + j))
 
+-- the number of tasks
 abbrev pub tasksOn : List ℕ → ℕ
 tasksOn board = nth board 16480
 
+-- the number of cores
 abbrev pub coresOn : List ℕ → ℕ
 coresOn board = nth board 16481
 
+-- the table's length
 abbrev pub slotsOn : List ℕ → ℕ
 slotsOn board = nth board 16482
 
+-- the number of the table's cells
 abbrev pub cellsOn : List ℕ → ℕ
 cellsOn board = slotsOn board * coresOn board
 
@@ -89,6 +96,7 @@ pub record State : Type 0 where
   pub table : List ℕ
   pub left : List ℕ
 
+-- a state from its parts
 abbrev pub state : End → List ℕ → List ℕ → ℕ → State
 state e t l u = record { end = e; tries = u; table = t; left = l }
 
@@ -108,13 +116,16 @@ oneMore limit t l u r = cond (eqb u limit) (state Stopped t l u) r
 
 -- the cell of core `core` in the slot: the values v + 1, v + 2, .., j of them, and then idle, with `barred` tasks seen that bar idle
 module _ (board : List ℕ) (limit first slot core : ℕ) (next : Onward) where
+  -- idle, if nothing bars it
   unfoldable pub idleLast : List ℕ → List ℕ → ℕ → ℕ → State
   idleLast t l barred u = cond (eqb barred 0) (oneMore limit t l u (next (set t (first + core) 0) l (u + 1))) (state Nothing t l u)
 
+  -- task v put into the cell, and on from there
   unfoldable pub placed : List ℕ → List ℕ → ℕ → ℕ → State
   placed t l v u =
       next (set t (first + core) (v + 1)) (set l (counterOn board slot v) (nth l (counterOn board slot v) - rateOn board v core)) (u + 1)
 
+  -- the values in order, and idle last
   unfoldable pub tryFrom : ℕ → ℕ → List ℕ → List ℕ → ℕ → ℕ → ℕ → State
   tryFrom zero floor t l v barred u = idleLast t l barred u
   tryFrom (suc j) floor t l v barred u =
