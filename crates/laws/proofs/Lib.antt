@@ -3,3 +3,5 @@ pub mod TestLaws
 pub mod ListLaws
 pub mod LcmLaws
 pub mod OrderLaws
+pub mod Only
+pub mod Calls
