@@ -18,10 +18,10 @@ use Rattle.tasks.proofs.SoundLaws.{sound-list}
 use Rattle.table.specs.Table.{cells, Valid}
 use Rattle.table.specs.Fault.{Fault, noFault, inCell, inJob, fault, Checked, refused, checked, check}
 use Rattle.checker.specs.declared.Verdict.{Verdict}
-use Rattle.checker.specs.declared.Verdict.the-variants.{Valid as IsValid, Cell, Job, Refused}
 use Rattle.checker.specs.Checks.{toldOf}
 use Rattle.checker.specs.Faulty.{FirstCell, FirstJob}
 use Rattle.checker.proofs.FaultLaws.{Says, named, faultless, none-valid, valid-none}
+use Rattle.checker.proofs.Calls.{CheckTable}
 use Rattle.checker.proofs.TellLaws.{check-refused, check-short, check-long}
 
 -- ---- statements
@@ -118,24 +118,6 @@ module _ (m : ℕ) (ts : List Task) (t : List ℕ) where
         (lt-or-ge (length t) (cells (planFor m ts)))
   ]
 
--- so does the answer of `check_table`, by what that ensures
-pub answer-tells : (list : TaskList) (m : ℕ) (t : List ℕ) (r : Verdict) → toldOf r ≡ check m (rows list) t → Tells m (rows list) t (toldOf r)
+-- so does the answer of a call of `check_table`
+pub answer-tells : (list : TaskList) (m : ℕ) (t : List ℕ) (r : Verdict) → CheckTable list m t r → Tells m (rows list) t (toldOf r)
 answer-tells list m t r e = subst (Tells m (rows list) t) (sym e) (tells m (rows list) t)
-
--- the answer from what is told
-answerOf : Checked → Verdict
-answerOf (refused number) = Refused number
-answerOf (checked noFault) = IsValid
-answerOf (checked (inCell s j kind)) = Cell s j kind
-answerOf (checked (inJob i k kind)) = Job i k kind
-
-answer-of : (r : Verdict) → answerOf (toldOf r) ≡ r
-unfolding toldOf answerOf
-answer-of IsValid = refl
-answer-of (Cell s j kind) = refl
-answer-of (Job i k kind) = refl
-answer-of (Refused number) = refl
-
--- any two answers that `check_table` ensures are equal
-pub answer-one : (list : TaskList) (m : ℕ) (t : List ℕ) (r r′ : Verdict) → toldOf r ≡ check m (rows list) t → toldOf r′ ≡ check m (rows list) t → r ≡ r′
-answer-one list m t r r′ e e′ = sym (answer-of r) ∙ ap answerOf (e ∙ sym e′) ∙ answer-of r′

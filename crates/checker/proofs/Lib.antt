@@ -3,4 +3,5 @@ pub mod CellLaws
 pub mod ScanLaws
 pub mod CountLaws
 pub mod TellLaws
+pub mod Calls
 pub mod Demand2

@@ -3,11 +3,12 @@
 use Prim.Native.Nat.{ℕ, zero, suc, _+_, _*_, _-_, _%_, _^_, _≤_, _<_, min}
 use mathlib.Core.Path.{_≡_, sym, ap, _∙_}
 use mathlib.Core.Logic.{⊎-elim}
-use mathlib.Core.List.{List, [], _∷_}
+use mathlib.Core.List.{List}
 use native.Mathlib.Omega.{arith}
-use native.Mathlib.Nat.{mod-lt, mod-eq-of-lt, mod-add-mod, mul-le-mul, add-zero, zero-add, add-assoc}
+use native.Mathlib.Nat.{mod-lt, mod-eq-of-lt, mod-add-mod, mul-le-mul, add-zero, zero-add}
 use lib.ListN.{length}
 use borrow.Author.Tests.{le-leb, lt-leb}
+use Rattle.laws.specs.Sum.{sum}
 use Rattle.laws.specs.Lists.{nth}
 use Rattle.laws.proofs.SumLaws.{lt-or-ge}
 use Rattle.laws.proofs.ListLaws.{tab-same}
@@ -17,17 +18,40 @@ use Rattle.tasks.specs.Refusal.{tableLength}
 use Rattle.tasks.proofs.SoundLaws.{SoundList}
 use Rattle.player.specs.declared.Player.{Player}
 use Rattle.player.specs.Player.{elapsedOf, shownCell, cellOf, cellsOf, stepRefusal, advanced, stepped, afterStep, recordOf}
-use Rattle.player.specs.Played.{tickAfter, afterSteps, total, InTime, none, step, moved, shownAs, shownAt}
+use Rattle.player.specs.Played.{timeAfter, shownAs, shownAt}
 use Rattle.player.proofs.StepLaws.{Unspoilt, not-refused}
 use Rattle.player.proofs.StartLaws.{padded-at}
 use Rattle.player.proofs.PlayLaws.{shown-beyond, shown-idle, cell-lt}
 
 -- ---- ticks
+-- the tick s slots after the tick τ
+abbrev pub tickAfter : ℕ → ℕ → ℕ
+tickAfter τ s = (τ + s) % 2 ^ 32
+
 -- the elapsed number is the time that has passed, if that is below 2^32
 elapsed-is : (s e : ℕ) → e < 2 ^ 32 → elapsedOf (tickAfter (s % 2 ^ 32) e) (s % 2 ^ 32) ≡ e
 elapsed-is s e h = omega arith
 
+-- ticks of 32 bits are told by the elapsed numbers
+pub tick-after : (tick : ℕ → ℕ) → ((s : ℕ) → tick s < 2 ^ 32) → (s : ℕ) → tick s ≡ tickAfter (tick 0) (timeAfter tick s)
+unfolding sum
+tick-after tick l zero = omega (arith, l 0)
+tick-after tick l (suc s) = omega (arith, tick-after tick l s, l s, l (suc s))
+
 -- ---- the clock
+-- a record moved on by s slots: position modulo H, age not past 1024, last modulo 2^32
+abbrev pub moved : Player → ℕ → Player
+moved p s = record {
+  last = tickAfter (p .last) s;
+  h = p .h;
+  position = (p .position + s) % p .h;
+  age = min (p .age + s) 1024;
+  offsets = p .offsets;
+  m = p .m;
+  n = p .n;
+  table = p .table;
+}
+
 module _ (p : Player) (u : Unspoilt p) where
   -- a record that is moved on is not spoilt
   moved-unspoilt : (s : ℕ) → Unspoilt (moved p s)
@@ -75,15 +99,6 @@ module _ (p : Player) (u : Unspoilt p) where
       same : {a b c : ℕ} → a ≡ p .last → b ≡ p .position → c ≡ p .age
           → _≡_ {A = Player} (record { last = a; h = p .h; position = b; age = c; offsets = p .offsets; m = p .m; n = p .n; table = p .table }) p
       same x y z = rw (x, y, z)
-
-  -- steps that are in time add up
-  moved-steps : (s : ℕ) (es : List ℕ) → InTime es → afterSteps (moved p s) es ≡ moved p (s + total es)
-  unfolding afterSteps total
-  moved-steps s [] none = ap (moved p) (sym (add-zero s))
-  moved-steps s (e ∷ es) (step l r) = ap (λ q. afterSteps q es) (moved-step s e l) ∙ moved-steps (s + e) es r ∙ ap (moved p) (add-assoc s e (total es))
-
-  pub steps-moved : p .last < 2 ^ 32 → (es : List ℕ) → InTime es → afterSteps p es ≡ moved p (total es)
-  steps-moved l es r = ap (λ q. afterSteps q es) (sym (moved-none l)) ∙ moved-steps 0 es r ∙ ap (moved p) (omega arith)
 
 -- ---- the cells of a start's record
 -- the age tells of an offset up to 1024 what the time tells

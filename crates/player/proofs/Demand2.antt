@@ -1,4 +1,4 @@
--- Demand 2, the player: a valid table, played from its start with no slot missed, gives each job exactly its work inside its own window and shows it nowhere else.
+-- Demand 2, the player, over the calls' own contracts: a table that the checker accepts, played from its start with no slot missed, gives each job exactly its work inside its own window and shows it nowhere else.
 -- The statements come first, then their proofs.
 -- Assumes nothing.
 use Prim.Native.Nat.{ℕ, zero, suc, _+_, _*_, _-_, _%_, _^_, _≤_, _<_, min}
@@ -7,7 +7,6 @@ use mathlib.Core.Logic.{_≢_}
 use mathlib.Core.List.{List}
 use native.Mathlib.Omega.{arith}
 use native.Mathlib.Nat.{zero-add}
-use native.Mathlib.Numerals.{add-one}
 use lib.Dec.{eqb}
 use lib.ListN.{length}
 use Rattle.laws.specs.Sum.{gate, sum}
@@ -15,135 +14,192 @@ use Rattle.laws.specs.Lists.{nth}
 use Rattle.laws.proofs.SumLaws.{sum-ext}
 use Rattle.laws.proofs.ListLaws.{tab-at}
 use Rattle.tasks.specs.declared.Task.{Task}
-use Rattle.tasks.specs.Task.{rate, task}
+use Rattle.tasks.specs.declared.TaskList.{TaskList}
+use Rattle.tasks.specs.Task.{rate, task, rows}
 use Rattle.tasks.specs.Refusal.{within, unless, tableLength, IsSound}
 use Rattle.tasks.specs.Window.{InWindow}
 use Rattle.tasks.specs.Instance.{instanceOf}
-use Rattle.tasks.proofs.SoundLaws.{SoundList, sound-list, length-whole, instance-regular}
+use Rattle.tasks.proofs.SoundLaws.{SoundList, sound-list}
 use Rattle.table.specs.Table.{cells, Valid}
+use Rattle.table.specs.Fault.{noFault, checked, check}
+use Rattle.checker.specs.declared.Verdict.the-variants.{Valid as IsValid}
+use Rattle.checker.specs.Checks.{toldOf}
+use Rattle.checker.proofs.Calls.{CheckTable}
+use Rattle.checker.proofs.Demand2.{tells}
 use Rattle.player.specs.declared.Player.{Player}
+use Rattle.player.specs.declared.Shown.{Shown}
 use Rattle.player.specs.Player.{cellsOf, stepRefusal, advanced, stepped, afterStep, numbers, startRefusal, recordOf, started, afterStart}
-use Rattle.player.specs.Played.{shownAs, shownAt, tickAfter, recordAt, answerAt, playedCell, playedUnits, moved, afterSteps, total, InTime}
+use Rattle.player.specs.Played.{shownAs, shownAt, unitsIn, elapsedAt, timeAfter}
 use Rattle.player.proofs.StepLaws.{Unspoilt}
 use Rattle.player.proofs.PlayLaws.{plays-work, plays-open, plays-rated, plays-once}
-use Rattle.player.proofs.ClockLaws.{moved-none, moved-step, moved-answer, steps-moved, made-unspoilt, made-cells}
-use Rattle.player.proofs.Accepted.{valid-accepted}
+use Rattle.player.proofs.ClockLaws.{tickAfter, moved, tick-after, moved-none, moved-step, moved-answer, made-unspoilt, made-cells}
+use Rattle.player.proofs.Calls.{Start, Step}
 
 -- ---- statements
--- a table, played from a start at tick τ over the record p, every elapsed number 1
-pub record Plays (m : ℕ) (ts : List Task) (t : List ℕ) (τ : ℕ) (p : Player) : Type 0 where
+-- a run: a call of `start` over the record p at the first tick, and n calls of `step`, each at the next tick on the record that the call before it left
+pub record Run (list : TaskList) (m : ℕ) (t : List ℕ) (p : Player) (tick : ℕ → ℕ) (n : ℕ) (shown : ℕ → Shown) (left : ℕ → Player) : Type 0 where
+  -- a tick has 32 bits
+  pub ticks : (s : ℕ) → tick s < 2 ^ 32
+  pub starts : Start p list m t (tick 0) (shown 0) (left 0)
+  pub steps : (s : ℕ) → s < n → Step (left s) (tick (suc s)) (shown (suc s)) (left (suc s))
+
+-- a table played with any elapsed numbers
+pub record Keeps (m : ℕ) (ts : List Task) (t : List ℕ) (tick : ℕ → ℕ) (n : ℕ) (shown : ℕ → Shown) (left : ℕ → Player) : Type 0 where
   -- the start and each step are accepted
-  pub accepted : (s : ℕ) → answerAt m ts t τ p s .verdict ≡ 0
+  pub accepted : (s : ℕ) → s ≤ n → shown s .verdict ≡ 0
+  -- the position is the sum of the elapsed numbers modulo H
+  pub position-is : (s : ℕ) → s ≤ n → left s .position ≡ timeAfter tick s % tableLength ts
+  -- the age is their sum, but not past 1024
+  pub age-is : (s : ℕ) → s ≤ n → left s .age ≡ min (timeAfter tick s) 1024
+  -- the four cells are those of the time that has passed
+  pub shows : (s : ℕ) → s ≤ n → shown s .cells ≡ shownAt m ts t (timeAfter tick s)
+  -- the start misses no slot
+  pub starts : shown 0 .missed ≡ 0
+  -- and a step of elapsed number e misses e - 1
+  pub misses : (s : ℕ) → s < n → shown (suc s) .missed ≡ elapsedAt tick s - 1
+
+-- a table played for n steps with every elapsed number 1
+pub record Plays (m : ℕ) (ts : List Task) (t : List ℕ) (n : ℕ) (shown : ℕ → Shown) : Type 0 where
+  -- the start and each step are accepted
+  pub accepted : (s : ℕ) → s ≤ n → shown s .verdict ≡ 0
   -- no slot is missed
-  pub none-missed : (s : ℕ) → answerAt m ts t τ p s .missed ≡ 0
+  pub none-missed : (s : ℕ) → s ≤ n → shown s .missed ≡ 0
   -- at each time the four cells are those of the table's slot, shown as the time tells
-  pub shows : (s : ℕ) → answerAt m ts t τ p s .cells ≡ shownAt m ts t s
+  pub shows : (s : ℕ) → s ≤ n → shown s .cells ≡ shownAt m ts t s
   -- the rates of a task's shown cells in its window K, at times O + K * T to O + K * T + D - 1, add up to exactly C
-  pub works : (i K : ℕ) → i ≢ 0 → i ≤ length ts
-      → sum (task ts i .deadline .0) (λ u. playedUnits m ts t τ p i (task ts i .offset .0 + (K * task ts i .period .0 + u))) ≡ task ts i .work .0
+  pub works : (i K : ℕ) → i ≢ 0 → i ≤ length ts → task ts i .offset .0 + (K * task ts i .period .0 + task ts i .deadline .0) ≤ suc n
+      → sum (task ts i .deadline .0) (λ u. unitsIn ts i (shown (task ts i .offset .0 + (K * task ts i .period .0 + u)) .cells)) ≡ task ts i .work .0
   -- a task is shown in its windows only
-  pub inside : (i s j : ℕ) → i ≢ 0 → i ≤ length ts → j < 4 → playedCell m ts t τ p s j ≡ i
+  pub inside : (i s j : ℕ) → i ≢ 0 → i ≤ length ts → s ≤ n → j < 4 → nth (shown s .cells) j ≡ i
       → (K : ℕ) × InWindow (task ts i .offset .0) (task ts i .deadline .0) (task ts i .period .0) K s
   -- never on a core of rate 0
-  pub rated : (i s j : ℕ) → i ≢ 0 → i ≤ length ts → j < 4 → playedCell m ts t τ p s j ≡ i → 0 < rate (task ts i) j
+  pub rated : (i s j : ℕ) → i ≢ 0 → i ≤ length ts → s ≤ n → j < 4 → nth (shown s .cells) j ≡ i → 0 < rate (task ts i) j
   -- never twice in a slot
-  pub once : (i s j j' : ℕ) → i ≢ 0 → i ≤ length ts → j < 4 → j' < 4 → j ≢ j' → playedCell m ts t τ p s j ≡ i → playedCell m ts t τ p s j' ≡ i → ⊥
-
--- steps after such a start with any elapsed numbers, each below 2^31
-pub record Misses (m : ℕ) (ts : List Task) (t : List ℕ) (τ : ℕ) (p : Player) (es : List ℕ) : Type 0 where
-  -- the position is their sum modulo H
-  pub position-is : afterSteps (afterStart m ts t τ p) es .position ≡ total es % tableLength ts
-  -- the age is their sum, but not past 1024
-  pub age-is : afterSteps (afterStart m ts t τ p) es .age ≡ min (total es) 1024
-  -- a step with one more elapsed number e shows the cells of the time that has passed
-  pub shows : (e : ℕ) → e < 2 ^ 31 → let q = afterSteps (afterStart m ts t τ p) es in stepped q (tickAfter (q .last) e) .cells ≡ shownAt m ts t (total es + e)
-  -- and misses e - 1 slots
-  pub misses : (e : ℕ) → e < 2 ^ 31 → let q = afterSteps (afterStart m ts t τ p) es in stepped q (tickAfter (q .last) e) .missed ≡ e - 1
+  pub once : (i s j j' : ℕ) → i ≢ 0 → i ≤ length ts → s ≤ n → j < 4 → j' < 4 → j ≢ j' → nth (shown s .cells) j ≡ i → nth (shown s .cells) j' ≡ i → ⊥
 
 -- ---- proofs
-module _ (m : ℕ) (ts : List Task) (t : List ℕ) (τ : ℕ) (p : Player) (sound : IsSound m ts) (tick : τ < 2 ^ 32)
-    (room : cells (instanceOf (tableLength ts) m ts) ≤ length t) (valid : Valid (instanceOf (tableLength ts) m ts) (nth t)) where
-  sl : SoundList m ts
-  sl = sound-list m ts sound
+module _ (list : TaskList) (m : ℕ) (t : List ℕ) (p : Player) (tick : ℕ → ℕ) (n : ℕ) (shown : ℕ → Shown) (left : ℕ → Player)
+    (valid : CheckTable list m t IsValid) (run : Run list m t p tick n shown left) where
+  abbrev ts : List Task
+  ts = rows list
 
   abbrev made : Player
-  made = recordOf m ts t τ
+  made = recordOf m ts t (tick 0)
+
+  -- the checker finds no fault
+  faultless : check m ts t ≡ checked noFault
+  unfolding toldOf
+  faultless = sym valid
+
+  -- so the list is sound, and the table is long enough and meets C1 to C4
+  met : IsSound m ts × (cells (instanceOf (tableLength ts) m ts) ≤ length t) × Valid (instanceOf (tableLength ts) m ts) (nth t)
+  met = tells m ts t .valid-exact .0 faultless
+
+  sl : SoundList m ts
+  sl = sound-list m ts (met .0)
 
   unspoilt : Unspoilt made
-  unspoilt = made-unspoilt sl t τ
+  unspoilt = made-unspoilt sl t (tick 0)
 
   -- the table is accepted
   taken : startRefusal m ts t ≡ 0
-  taken = valid-accepted m ts t sound (instance-regular sl (length-whole sl) .some-core) room valid
+  taken = rw faultless
 
   -- so the start makes its record
-  start-made : afterStart m ts t τ p ≡ made
-  unfolding afterStart
-  start-made = rw taken
-
   made-now : moved made 0 ≡ made
   unfolding recordOf
-  made-now = moved-none made unspoilt tick
+  made-now = moved-none made unspoilt (run .ticks 0)
 
-  -- the tick of the next slot
-  next-tick : (s : ℕ) → tickAfter τ (suc s) ≡ tickAfter (moved made s .last) 1
-  unfolding recordOf
-  next-tick s = omega arith
+  start-made : left 0 ≡ made
+  unfolding afterStart
+  start-made = run .starts .1 ∙ rw taken
 
-  -- which moves on slot by slot
-  record-at : (s : ℕ) → recordAt m ts t τ p s ≡ moved made s
-  unfolding recordAt
-  record-at zero = start-made ∙ sym made-now
-  record-at (suc s) = ap₂ afterStep (record-at s) (next-tick s) ∙ moved-step made unspoilt s 1 (omega arith) ∙ ap (moved made) (add-one s)
+  -- and answers for slot 0
+  start-shown : shown 0 ≡ record { verdict = 0; cells = cellsOf (moved made 0); missed = 0 }
+  unfolding started
+  start-shown = run .starts .0 ∙ rw (taken, made-now)
 
-  -- and answers so
-  answer-at : (s : ℕ) → answerAt m ts t τ p s ≡ record { verdict = 0; cells = cellsOf (moved made s); missed = 0 }
-  unfolding answerAt started
-  answer-at zero = rw (taken, made-now)
-  answer-at (suc s) = ap₂ stepped (record-at s) (next-tick s) ∙ moved-answer made unspoilt s 1 (omega arith) ∙ rw add-one
-
-  -- its cells are those of the time
+  -- the cells of a time
   cells-at : (s : ℕ) → cellsOf (moved made s) ≡ shownAt m ts t s
   unfolding instanceOf
-  cells-at = made-cells sl t τ (valid .known)
+  cells-at = made-cells sl t (tick 0) (met .2 .known)
 
-  -- core by core
-  cell-at : (s j : ℕ) → j < 4 → playedCell m ts t τ p s j ≡ shownAs m ts s j (nth t (s % tableLength ts * m + j))
-  cell-at s j l = ap (λ a. nth (a .cells) j) (answer-at s) ∙ ap (λ c. nth c j) (cells-at s) ∙ tab-at 4 _ j 0 l
+  -- the tick of a step
+  next-tick : (s : ℕ) → tick (suc s) ≡ tickAfter (moved made (timeAfter tick s) .last) (elapsedAt tick s)
+  unfolding recordOf sum
+  next-tick s = tick-after tick (run .ticks) (suc s) ∙ omega arith
 
-  -- the table is played as 01 demands
-  pub plays : Plays m ts t τ p
-  plays = record {
-    accepted = λ s. ap (λ a. a .verdict) (answer-at s);
-    none-missed = λ s. ap (λ a. a .missed) (answer-at s);
-    shows = λ s. ap (λ a. a .cells) (answer-at s) ∙ cells-at s;
-    works = λ i K x l. sum-ext (task ts i .deadline .0) _ _ (λ u _. sum-ext 4 _ _ (λ j n. ap (λ c. gate (eqb c i) (rate (task ts i) j)) (cell-at _ j n)))
-        ∙ plays-work sl (nth t) valid i x l K;
-    inside = λ i s j x l n e. plays-open sl (nth t) valid i x l s j (sym (cell-at s j n) ∙ e);
-    rated = λ i s j x l n e. plays-rated sl (nth t) valid i x l s j (sym (cell-at s j n) ∙ e);
-    once = λ i s j j' x l n n' y e e'. plays-once sl (nth t) valid i x l s j (sym (cell-at s j n) ∙ e) j' y (sym (cell-at s j' n') ∙ e');
-  }
+  module _ (in-time : (s : ℕ) → s < n → elapsedAt tick s < 2 ^ 31) where
+    -- each step moves the record on
+    left-at : (s : ℕ) → s ≤ n → left s ≡ moved made (timeAfter tick s)
+    unfolding sum
+    left-at zero l = start-made ∙ sym made-now
+    left-at (suc s) l = run .steps s l .1 ∙ ap₂ afterStep (left-at s (omega arith)) (next-tick s) ∙ moved-step made unspoilt (timeAfter tick s) (elapsedAt tick s) (in-time s l)
 
-  module _ (es : List ℕ) (r : InTime es) where
-    -- the record after any steps in time
-    steps-made : afterSteps (afterStart m ts t τ p) es ≡ moved made (total es)
-    unfolding recordOf
-    steps-made = ap (λ q. afterSteps q es) start-made ∙ steps-moved made unspoilt tick es r
+    -- and answers for its time
+    shown-at : (s : ℕ) → s < n → shown (suc s) ≡ record { verdict = 0; cells = cellsOf (moved made (timeAfter tick (suc s))); missed = elapsedAt tick s - 1 }
+    unfolding sum
+    shown-at s l = run .steps s l .0 ∙ ap₂ stepped (left-at s (omega arith)) (next-tick s) ∙ moved-answer made unspoilt (timeAfter tick s) (elapsedAt tick s) (in-time s l)
 
-    -- the answer of one more
-    next-answer : (e : ℕ) → e < 2 ^ 31 → let q = afterSteps (afterStart m ts t τ p) es in
-        stepped q (tickAfter (q .last) e) ≡ record { verdict = 0; cells = cellsOf (moved made (total es + e)); missed = e - 1 }
-    next-answer e l = ap (λ q. stepped q (tickAfter (q .last) e)) steps-made ∙ moved-answer made unspoilt (total es) e l
+    accepted : (s : ℕ) → s ≤ n → shown s .verdict ≡ 0
+    accepted zero l = ap (λ a. a .verdict) start-shown
+    accepted (suc s) l = ap (λ a. a .verdict) (shown-at s l)
+
+    shows : (s : ℕ) → s ≤ n → shown s .cells ≡ shownAt m ts t (timeAfter tick s)
+    unfolding sum
+    shows zero l = ap (λ a. a .cells) start-shown ∙ cells-at 0
+    shows (suc s) l = ap (λ a. a .cells) (shown-at s l) ∙ cells-at (timeAfter tick (suc s))
 
     -- missed slots are passed over
-    pub misses : Misses m ts t τ p es
+    pub keeps : Keeps m ts t tick n shown left
     unfolding recordOf
-    misses = record {
-      position-is = ap (λ q. q .position) steps-made ∙ ap (λ x. x % tableLength ts) (zero-add (total es));
-      age-is = ap (λ q. q .age) steps-made ∙ ap (λ x. min x 1024) (zero-add (total es));
-      shows = λ e l. ap (λ a. a .cells) (next-answer e l) ∙ cells-at (total es + e);
-      misses = λ e l. ap (λ a. a .missed) (next-answer e l);
+    keeps = record {
+      accepted = accepted;
+      position-is = λ s l. ap (λ q. q .position) (left-at s l) ∙ ap (λ x. x % tableLength ts) (zero-add (timeAfter tick s));
+      age-is = λ s l. ap (λ q. q .age) (left-at s l) ∙ ap (λ x. min x 1024) (zero-add (timeAfter tick s));
+      shows = shows;
+      starts = ap (λ a. a .missed) start-shown;
+      misses = λ s l. ap (λ a. a .missed) (shown-at s l);
     }
+
+  module _ (each : (s : ℕ) → s < n → elapsedAt tick s ≡ 1) where
+    all-kept : Keeps m ts t tick n shown left
+    all-kept = keeps (λ s l. omega (arith, each s l))
+
+    -- the time is the number of steps
+    time-is : (s : ℕ) → s ≤ n → timeAfter tick s ≡ s
+    unfolding sum
+    time-is zero l = refl
+    time-is (suc s) l = omega (arith, time-is s (omega arith), each s l)
+
+    shows-at : (s : ℕ) → s ≤ n → shown s .cells ≡ shownAt m ts t s
+    shows-at s l = all-kept .shows s l ∙ ap (shownAt m ts t) (time-is s l)
+
+    missed-none : (s : ℕ) → s ≤ n → shown s .missed ≡ 0
+    missed-none zero l = all-kept .starts
+    missed-none (suc s) l = all-kept .misses s l ∙ omega (arith, each s l)
+
+    -- core by core
+    cell-at : (s j : ℕ) → s ≤ n → j < 4 → nth (shown s .cells) j ≡ shownAs m ts s j (nth t (s % tableLength ts * m + j))
+    cell-at s j l h = ap (λ c. nth c j) (shows-at s l) ∙ tab-at 4 _ j 0 h
+
+    -- the table is played as 01 demands
+    pub plays : Plays m ts t n shown
+    plays = record {
+      accepted = all-kept .accepted;
+      none-missed = missed-none;
+      shows = shows-at;
+      works = λ i K x l w. sum-ext (task ts i .deadline .0) _ _ (λ u v. sum-ext 4 _ _ (λ j h. ap (λ c. gate (eqb c i) (rate (task ts i) j)) (cell-at _ j (omega (arith, v, w)) h)))
+          ∙ plays-work sl (nth t) (met .2) i x l K;
+      inside = λ i s j x l k h e. plays-open sl (nth t) (met .2) i x l s j (sym (cell-at s j k h) ∙ e);
+      rated = λ i s j x l k h e. plays-rated sl (nth t) (met .2) i x l s j (sym (cell-at s j k h) ∙ e);
+      once = λ i s j j' x l k h h' y e e'. plays-once sl (nth t) (met .2) i x l s j (sym (cell-at s j k h) ∙ e) j' y (sym (cell-at s j' k h') ∙ e');
+    }
+
+-- ---- ticks
+-- the board's counter, from any tick on and across its wrap: every elapsed number is 1
+pub counts : (τ s : ℕ) → elapsedAt (tickAfter τ) s ≡ 1
+counts τ s = omega arith
 
 -- ---- 01's example
 -- H = 12, and slot 3 at tick 4294967295: at the next tick, 0, it is slot 4 and not 0

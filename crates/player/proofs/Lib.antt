@@ -4,5 +4,5 @@ mod Element
 mod StartLaws
 pub mod PlayLaws
 pub mod ClockLaws
-pub mod Accepted
+pub mod Calls
 pub mod Demand2

@@ -1,0 +1,40 @@
+-- What a call of `check_table` ensures, as its contract says, and that it leaves one answer; the table is only read.
+-- Assumes nothing.
+use Prim.Native.Nat.{ℕ}
+use mathlib.Core.Path.{_≡_, refl}
+use mathlib.Core.List.{List}
+use denote.Ref.{now}
+use Rattle.laws.proofs.Only.{Says, only-told}
+use Rattle.tasks.specs.declared.TaskList.{TaskList}
+use Rattle.tasks.specs.Task.{rows}
+use Rattle.table.specs.Fault.{noFault, inCell, inJob, Checked, refused, checked, check}
+use Rattle.checker.specs.declared.Verdict.{Verdict}
+use Rattle.checker.specs.declared.Verdict.the-variants.{Valid, Cell, Job, Refused}
+use Rattle.checker.specs.Checks.{toldOf}
+use Rattle.checker.proofs.check_table as check-table
+
+-- the answer from what is told
+answerOf : Checked → Verdict
+answerOf (refused number) = Refused number
+answerOf (checked noFault) = Valid
+answerOf (checked (inCell s j kind)) = Cell s j kind
+answerOf (checked (inJob i k kind)) = Job i k kind
+
+-- 01's numbers tell the answers apart
+answer-of : (r : Verdict) → answerOf (toldOf r) ≡ r
+unfolding toldOf answerOf
+answer-of Valid = refl
+answer-of (Cell s j kind) = refl
+answer-of (Job i k kind) = refl
+answer-of (Refused number) = refl
+
+-- ---- check_table
+abbrev pub CheckTable : TaskList → ℕ → List ℕ → Verdict → Type 0
+CheckTable list m t r = toldOf r ≡ check m (rows list) t
+
+check-table-says : (κs list m table list′ m′ table′ r : _)
+    → Says (λ M 𝓤 H A mem run. check-table.ensures-1 𝓤 H κs A mem run list m table list′ m′ table′ r) (CheckTable list m (now (table′ .entry)) r)
+check-table-says κs list m table list′ m′ table′ r M 𝓤 H A mem run = refl
+
+pub check-table-only : (list : TaskList) (m : ℕ) (t : List ℕ) (r r′ : Verdict) → CheckTable list m t r → CheckTable list m t r′ → r ≡ r′
+check-table-only list m t r r′ = only-told toldOf answerOf answer-of
