@@ -1,3 +1,4 @@
 pub mod WindowLaws
 pub mod SoundLaws
 pub mod AnswerLaws
+pub mod Calls

@@ -1,0 +1,82 @@
+-- What a call of each public function ensures, as its contract says, and that it leaves one answer.
+-- Assumes nothing.
+use Prim.Native.Nat.{ℕ}
+use mathlib.Core.Path.{_≡_, refl, ap}
+use Rattle.laws.proofs.Only.{Says, only}
+use Rattle.tasks.specs.declared.Slots.{Slots}
+use Rattle.tasks.specs.declared.Work.{Work}
+use Rattle.tasks.specs.declared.Task.{Task}
+use Rattle.tasks.specs.declared.TaskList.{TaskList}
+use Rattle.tasks.specs.declared.Soundness.{Soundness}
+use Rattle.tasks.specs.declared.Window.{Window}
+use Rattle.tasks.specs.Task.{workIn, taskAt, rows}
+use Rattle.tasks.specs.Refusal.{taskRefusal, soundnessOf}
+use Rattle.tasks.specs.Window.{windowAt, lastSlot}
+use Rattle.tasks.proofs.work_in as work-in
+use Rattle.tasks.proofs.task_at as task-at
+use Rattle.tasks.proofs.task_refusal as task-refusal
+use Rattle.tasks.proofs.test_list as test-list
+use Rattle.tasks.proofs.open_in as open-in
+use Rattle.tasks.proofs.last_slot as last-slot
+
+-- ---- work_in
+abbrev pub WorkIn : ℕ → Slots → Work → Type 0
+WorkIn rate slots r = r ≡ workIn rate slots
+
+work-in-says : (κs rate slots rate′ slots′ r : _) → Says (λ M 𝓤 H A mem run. work-in.ensures-1 𝓤 H κs A mem run rate slots rate′ slots′ r) (WorkIn rate slots r)
+work-in-says κs rate slots rate′ slots′ r M 𝓤 H A mem run = refl
+
+pub work-in-only : (rate : ℕ) (slots : Slots) (r r′ : Work) → WorkIn rate slots r → WorkIn rate slots r′ → r ≡ r′
+work-in-only rate slots r r′ = only
+
+-- ---- task_at
+abbrev pub TaskAt : TaskList → ℕ → Task → Type 0
+TaskAt list i r = r ≡ taskAt list i
+
+task-at-says : (κs list i list′ i′ r : _) → Says (λ M 𝓤 H A mem run. task-at.ensures-1 𝓤 H κs A mem run list i list′ i′ r) (TaskAt list i r)
+task-at-says κs list i list′ i′ r M 𝓤 H A mem run = refl
+
+pub task-at-only : (list : TaskList) (i : ℕ) (r r′ : Task) → TaskAt list i r → TaskAt list i r′ → r ≡ r′
+task-at-only list i r r′ = only
+
+-- ---- task_refusal
+abbrev pub TaskRefusal : Task → ℕ → ℕ → Type 0
+TaskRefusal t m r = r ≡ taskRefusal m t
+
+task-refusal-says : (κs t m t′ m′ r : _) → Says (λ M 𝓤 H A mem run. task-refusal.ensures-1 𝓤 H κs A mem run t m t′ m′ r) (TaskRefusal t m r)
+task-refusal-says κs t m t′ m′ r M 𝓤 H A mem run = refl
+
+pub task-refusal-only : (t : Task) (m r r′ : ℕ) → TaskRefusal t m r → TaskRefusal t m r′ → r ≡ r′
+task-refusal-only t m r r′ = only
+
+-- ---- test_list
+abbrev pub TestList : TaskList → ℕ → Soundness → Type 0
+TestList list m r = r ≡ soundnessOf m (rows list)
+
+test-list-says : (κs list m list′ m′ r : _) → Says (λ M 𝓤 H A mem run. test-list.ensures-1 𝓤 H κs A mem run list m list′ m′ r) (TestList list m r)
+test-list-says κs list m list′ m′ r M 𝓤 H A mem run = refl
+
+pub test-list-only : (list : TaskList) (m : ℕ) (r r′ : Soundness) → TestList list m r → TestList list m r′ → r ≡ r′
+test-list-only list m r r′ = only
+
+-- ---- open_in
+abbrev pub OpenIn : Slots → Task → Slots → Window → Type 0
+OpenIn len t slot r = r ≡ windowAt (len .0) t (slot .0)
+
+open-in-says : (κs len t slot len′ t′ slot′ r : _)
+    → Says (λ M 𝓤 H A mem run. open-in.ensures-1 𝓤 H κs A mem run len t slot len′ t′ slot′ r) (OpenIn len t slot r)
+open-in-says κs len t slot len′ t′ slot′ r M 𝓤 H A mem run = refl
+
+pub open-in-only : (len : Slots) (t : Task) (slot : Slots) (r r′ : Window) → OpenIn len t slot r → OpenIn len t slot r′ → r ≡ r′
+open-in-only len t slot r r′ = only
+
+-- ---- last_slot
+abbrev pub LastSlot : Slots → Task → ℕ → Slots → Type 0
+LastSlot len t job r = r .0 ≡ lastSlot (len .0) (t .offset .0) (t .deadline .0) (t .period .0) job
+
+last-slot-says : (κs len t job len′ t′ job′ r : _)
+    → Says (λ M 𝓤 H A mem run. last-slot.ensures-1 𝓤 H κs A mem run len t job len′ t′ job′ r) (LastSlot len t job r)
+last-slot-says κs len t job len′ t′ job′ r M 𝓤 H A mem run = refl
+
+pub last-slot-only : (len : Slots) (t : Task) (job : ℕ) (r r′ : Slots) → LastSlot len t job r → LastSlot len t job r′ → r ≡ r′
+last-slot-only len t job r r′ e e′ = ap (λ x. record { 0 = x }) (only e e′)
