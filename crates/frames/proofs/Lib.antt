@@ -7,3 +7,4 @@ pub mod ProblemLaws
 mod ReachLaws
 mod TaskLaws
 mod WriteLaws
+pub mod Calls

@@ -14,10 +14,7 @@ use Rattle.rules.proofs.Demand2.{Searches, searches}
 use Rattle.rules.proofs.Demand3.{Agree, agree}
 use Rattle.search.specs.declared.Answer.{Answer}
 use Rattle.search.specs.Board.{toldOf}
-
--- a call of `search` on a list answers r and leaves the buffer t′, where it found t
-pub record Called (m : ℕ) (list : TaskList) (e b : ℕ) (t : List ℕ) (r : Answer) (t′ : List ℕ) : Type 0 where
-  pub ensured : toldOf r t′ ≡ search m (rows list) e b t
+use Rattle.search.proofs.Calls.{Search}
 
 -- what a refused call answers and leaves
 pub record Refuses (k : ℕ) (t : List ℕ) (r : Answer) (t′ : List ℕ) : Type 0 where
@@ -25,22 +22,22 @@ pub record Refuses (k : ℕ) (t : List ℕ) (r : Answer) (t′ : List ℕ) : Typ
   pub no-tries : r .tries ≡ 0
   pub untouched : t′ ≡ t
 
-module _ {m : ℕ} {list : TaskList} {e b : ℕ} {t : List ℕ} {r : Answer} {t′ : List ℕ} (call : Called m list e b t r t′) where
+module _ (m : ℕ) (list : TaskList) (e b : ℕ) (t : List ℕ) (r : Answer) (t′ : List ℕ) (call : Search list m e b t r t′) where
   -- a call that is refused reports the refusal and 0 tries, and leaves the buffer untouched
   pub refuses : (k : ℕ) → searchRefusal m (rows list) e (length t) ≡ suc k → Refuses (suc k) t r t′
   unfolding search
   refuses k h = record { verdict = ap (λ s. s .verdict) all; no-tries = ap (λ s. s .tries) all; untouched = ap (λ s. s .buffer) all }
     where
       all : toldOf r t′ ≡ record { verdict = suc k; tries = 0; buffer = t }
-      all = call .ensured ∙ rw h
+      all = call ∙ rw h
 
   -- demand 2: a call on a sound list, by either engine, with any limit, into a buffer that is long enough
   pub right : IsSound m (rows list) → e ≤ 1 → cells (ownInstance m (rows list)) ≤ length t
       → Searches (ownInstance m (rows list)) (walked e (ownInstance m (rows list))) b t (toldOf r t′)
-  right sound engine room = rw (call .ensured) (searches m (rows list) e b t sound engine room)
+  right sound engine room = rw call (searches m (rows list) e b t sound engine room)
 
 -- demand 3: two calls on a sound list with the same limit, the quick and the plain
-pub same : {m : ℕ} {list : TaskList} {b : ℕ} {t : List ℕ} {q p : Answer} {u v : List ℕ} → Called m list 1 b t q u → Called m list 0 b t p v
+pub same : (m : ℕ) (list : TaskList) (b : ℕ) (t : List ℕ) (q p : Answer) (u v : List ℕ) → Search list m 1 b t q u → Search list m 0 b t p v
     → IsSound m (rows list) → cells (ownInstance m (rows list)) ≤ length t
     → Agree (walked 1 (ownInstance m (rows list))) (walked 0 (ownInstance m (rows list))) b (toldOf q u) (toldOf p v)
-same quick plain sound room = rw (quick .ensured, plain .ensured) (agree _ _ _ _ sound room)
+same m list b t q p u v quick plain sound room = rw (quick, plain) (agree m (rows list) b t sound room)

@@ -1,5 +1,5 @@
 pub mod FillLaws
 pub mod BoardLaws
 pub mod AnswerLaws
-pub mod Only
+pub mod Calls
 pub mod Demands

@@ -3,3 +3,4 @@ pub mod TurnLaws
 pub mod ReadyLaws
 pub mod ObeyLaws
 pub mod RefineLaws
+pub mod Calls

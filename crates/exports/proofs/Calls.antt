@@ -1,0 +1,49 @@
+-- What a call of each exported function ensures, as its contract says, and that it leaves one answer and one buffer; what is lent without `mut` is only read.
+-- Assumes nothing.
+use Prim.Native.Nat.{ℕ}
+use mathlib.Core.Path.{_≡_, refl}
+use mathlib.Core.List.{List}
+use denote.Ref.{now}
+use Rattle.laws.proofs.Only.{Says, only}
+use Rattle.tasks.specs.declared.TaskList.{TaskList}
+use Rattle.tasks.specs.Task.{rows}
+use Rattle.table.specs.Fault.{check}
+use Rattle.rules.specs.Search.{search}
+use Rattle.planner.proofs.Calls.{PlanText, plan-text-only}
+use Rattle.exports.specs.Packed.{listed, SearchedAs, checkedAs}
+use Rattle.exports.proofs.xiphomera_search as xiphomera-search
+use Rattle.exports.proofs.xiphomera_check as xiphomera-check
+use Rattle.exports.proofs.xiphomera_plan_text as xiphomera-plan-text
+
+-- ---- xiphomera_search
+abbrev pub XSearch : TaskList → ℕ → ℕ → ℕ → List ℕ → ℕ → List ℕ → Type 0
+XSearch list cores engine limit t r t′ = SearchedAs r t′ (search cores (rows list) engine limit t)
+
+xiphomera-search-says : (κs n offset work deadline period rates cores engine limit table n′ offset′ work′ deadline′ period′ rates′ cores′ engine′ limit′ table′ r : _)
+    → Says (λ M 𝓤 H A mem run. xiphomera-search.ensures-1 𝓤 H κs A mem run n offset work deadline period rates cores engine limit table n′ offset′ work′ deadline′ period′ rates′ cores′ engine′ limit′ table′ r)
+    (XSearch (listed n (now (offset′ .entry)) (now (work′ .entry)) (now (deadline′ .entry)) (now (period′ .entry)) (now (rates′ .entry))) cores engine limit (now (table′ .entry)) r (now (table′ .exit)))
+xiphomera-search-says κs n offset work deadline period rates cores engine limit table n′ offset′ work′ deadline′ period′ rates′ cores′ engine′ limit′ table′ r M 𝓤 H A mem run = refl
+
+pub xiphomera-search-only : (list : TaskList) (cores engine limit : ℕ) (t : List ℕ) (r r′ : ℕ) (u u′ : List ℕ)
+    → XSearch list cores engine limit t r u → XSearch list cores engine limit t r′ u′ → (r ≡ r′) × (u ≡ u′)
+xiphomera-search-only list cores engine limit t r r′ u u′ e e′ = (only (e .answer) (e′ .answer), only (e .left) (e′ .left))
+
+-- ---- xiphomera_check
+abbrev pub XCheck : TaskList → ℕ → List ℕ → ℕ → Type 0
+XCheck list cores t r = r ≡ checkedAs (check cores (rows list) t)
+
+xiphomera-check-says : (κs n offset work deadline period rates cores table n′ offset′ work′ deadline′ period′ rates′ cores′ table′ r : _)
+    → Says (λ M 𝓤 H A mem run. xiphomera-check.ensures-1 𝓤 H κs A mem run n offset work deadline period rates cores table n′ offset′ work′ deadline′ period′ rates′ cores′ table′ r)
+    (XCheck (listed n (now (offset′ .entry)) (now (work′ .entry)) (now (deadline′ .entry)) (now (period′ .entry)) (now (rates′ .entry))) cores (now (table′ .entry)) r)
+xiphomera-check-says κs n offset work deadline period rates cores table n′ offset′ work′ deadline′ period′ rates′ cores′ table′ r M 𝓤 H A mem run = refl
+
+pub xiphomera-check-only : (list : TaskList) (cores : ℕ) (t : List ℕ) (r r′ : ℕ) → XCheck list cores t r → XCheck list cores t r′ → r ≡ r′
+xiphomera-check-only list cores t r r′ = only
+
+-- ---- xiphomera_plan_text
+xiphomera-plan-text-says : (κs text out text′ out′ r : _)
+    → Says (λ M 𝓤 H A mem run. xiphomera-plan-text.ensures-1 𝓤 H κs A mem run text out text′ out′ r) (PlanText (now (text′ .entry)) (now (out′ .entry)) r (now (out′ .exit)))
+xiphomera-plan-text-says κs text out text′ out′ r M 𝓤 H A mem run = refl
+
+pub xiphomera-plan-text-only : (text out : List ℕ) (r r′ : ℕ) (o o′ : List ℕ) → PlanText text out r o → PlanText text out r′ o′ → (r ≡ r′) × (o ≡ o′)
+xiphomera-plan-text-only = plan-text-only
