@@ -1,17 +1,24 @@
 -- What a call of each public function ensures, as its contract says, and that it leaves one answer.
 -- Assumes nothing.
-use Prim.Native.Nat.{ℕ}
-use mathlib.Core.Path.{_≡_, refl, ap}
+use Prim.Native.Nat.{ℕ, _%_}
+use native.Mathlib.Decide.{ℕ-discrete}
+use native.Mathlib.Omega.{arith}
+use mathlib.Core.Path.{_≡_, refl, sym, ap, _∙_}
+use mathlib.Core.Logic.{_≢_, ⊎-elim}
+use Rattle.laws.proofs.SumLaws.{lt-or-ge}
 use Rattle.laws.proofs.Only.{Says, only}
 use Rattle.tasks.specs.declared.Slots.{Slots}
 use Rattle.tasks.specs.declared.Work.{Work}
 use Rattle.tasks.specs.declared.Task.{Task}
 use Rattle.tasks.specs.declared.TaskList.{TaskList}
 use Rattle.tasks.specs.declared.Soundness.{Soundness}
+use Rattle.tasks.specs.declared.Soundness.the-variants.{Sound, Refused}
 use Rattle.tasks.specs.declared.Window.{Window}
+use Rattle.tasks.specs.declared.Window.the-variants.{Open, Closed}
 use Rattle.tasks.specs.Task.{workIn, taskAt, rows}
-use Rattle.tasks.specs.Refusal.{taskRefusal, soundnessOf}
-use Rattle.tasks.specs.Window.{windowAt, lastSlot}
+use Rattle.tasks.specs.Refusal.{taskRefusal, tableLength, refusal, IsSound, soundnessOf}
+use Rattle.tasks.specs.Window.{place, jobAt, IsOpen, windowAt, lastSlot}
+use Rattle.tasks.proofs.AnswerLaws.{sound-answer, refused-answer, window-open, window-closed}
 use Rattle.tasks.proofs.work_in as work-in
 use Rattle.tasks.proofs.task_at as task-at
 use Rattle.tasks.proofs.task_refusal as task-refusal
@@ -59,6 +66,20 @@ test-list-says κs list m list′ m′ r M 𝓤 H A mem run = refl
 pub test-list-only : (list : TaskList) (m : ℕ) (r r′ : Soundness) → TestList list m r → TestList list m r′ → r ≡ r′
 test-list-only list m r r′ = only
 
+-- the cases by 01's numbers: sound, none of 1 to 8 refuses the list, and H slots
+pub test-list-sound : (list : TaskList) (m : ℕ) (h : Slots) → TestList list m (Sound h) → IsSound m (rows list) × (h .0 ≡ tableLength (rows list))
+test-list-sound list m h e = elim (ℕ-discrete (refusal m (rows list)) 0) [
+  | yes z ↦ let q : Sound h ≡ Sound (record { 0 = tableLength (rows list) }) = e ∙ sym (sound-answer m (rows list) _ (sym z) refl) in (z, cc)
+  | no x ↦ let q : Sound h ≡ Refused (refusal m (rows list)) = e ∙ sym (refused-answer m (rows list) _ x refl) in let w : _≡_ {A = ℕ} 0 1 = cc in absurd (omega arith)
+]
+
+-- refused, by that number
+pub test-list-refused : (list : TaskList) (m k : ℕ) → TestList list m (Refused k) → (k ≡ refusal m (rows list)) × (k ≢ 0)
+test-list-refused list m k e = elim (ℕ-discrete (refusal m (rows list)) 0) [
+  | yes z ↦ let q : Refused k ≡ Sound (record { 0 = tableLength (rows list) }) = e ∙ sym (sound-answer m (rows list) _ (sym z) refl) in let w : _≡_ {A = ℕ} 0 1 = cc in absurd (omega arith)
+  | no x ↦ let q : Refused k ≡ Refused (refusal m (rows list)) = e ∙ sym (refused-answer m (rows list) _ x refl) in let w : k ≡ refusal m (rows list) = cc in (w, λ z. x (sym w ∙ z))
+]
+
 -- ---- open_in
 abbrev pub OpenIn : Slots → Task → Slots → Window → Type 0
 OpenIn len t slot r = r ≡ windowAt (len .0) t (slot .0)
@@ -69,6 +90,22 @@ open-in-says κs len t slot len′ t′ slot′ r M 𝓤 H A mem run = refl
 
 pub open-in-only : (len : Slots) (t : Task) (slot : Slots) (r r′ : Window) → OpenIn len t slot r → OpenIn len t slot r′ → r ≡ r′
 open-in-only len t slot r r′ = only
+
+-- the cases: open, with the job's number
+pub open-in-open : (len : Slots) (t : Task) (slot : Slots) (k : ℕ) → OpenIn len t slot (Open k)
+    → IsOpen (len .0) (t .offset .0) (t .deadline .0) (t .period .0) (slot .0) × (k ≡ jobAt (len .0) (t .offset .0) (t .period .0) (slot .0))
+open-in-open len t slot k e = ⊎-elim
+    (λ l. let q : Open k ≡ Open (jobAt (len .0) (t .offset .0) (t .period .0) (slot .0)) = e ∙ sym (window-open (len .0) (slot .0) _ t refl l) in (l, cc))
+    (λ g. let q : Open k ≡ Closed = e ∙ sym (window-closed (len .0) (slot .0) _ t refl g) in let w : _≡_ {A = ℕ} 0 1 = cc in absurd (omega arith))
+    (lt-or-ge (place (len .0) (t .offset .0) (slot .0) % t .period .0) (t .deadline .0))
+
+-- and closed
+pub open-in-closed : (len : Slots) (t : Task) (slot : Slots) → OpenIn len t slot Closed
+    → IsOpen (len .0) (t .offset .0) (t .deadline .0) (t .period .0) (slot .0) → ⊥
+open-in-closed len t slot e l =
+    let q : Closed ≡ Open (jobAt (len .0) (t .offset .0) (t .period .0) (slot .0)) = e ∙ sym (window-open (len .0) (slot .0) _ t refl l) in
+    let w : _≡_ {A = ℕ} 0 1 = cc in
+    omega arith
 
 -- ---- last_slot
 abbrev pub LastSlot : Slots → Task → ℕ → Slots → Type 0
