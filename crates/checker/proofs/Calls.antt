@@ -20,13 +20,17 @@ answerOf (checked noFault) = Valid
 answerOf (checked (inCell s j kind)) = Cell s j kind
 answerOf (checked (inJob i k kind)) = Job i k kind
 
--- 01's numbers tell the answers apart
+-- is the answer
 answer-of : (r : Verdict) → answerOf (toldOf r) ≡ r
 unfolding toldOf answerOf
 answer-of Valid = refl
 answer-of (Cell s j kind) = refl
 answer-of (Job i k kind) = refl
 answer-of (Refused number) = refl
+
+-- 01's numbers tell the answers apart
+pub told-only : {x : Checked} (r r′ : Verdict) → toldOf r ≡ x → toldOf r′ ≡ x → r ≡ r′
+told-only r r′ = only-told toldOf answerOf answer-of
 
 -- ---- check_table
 abbrev pub CheckTable : TaskList → ℕ → List ℕ → Verdict → Type 0
@@ -37,4 +41,4 @@ check-table-says : (κs list m table list′ m′ table′ r : _)
 check-table-says κs list m table list′ m′ table′ r M 𝓤 H A mem run = refl
 
 pub check-table-only : (list : TaskList) (m : ℕ) (t : List ℕ) (r r′ : Verdict) → CheckTable list m t r → CheckTable list m t r′ → r ≡ r′
-check-table-only list m t r r′ = only-told toldOf answerOf answer-of
+check-table-only list m t r r′ = told-only r r′

@@ -16,28 +16,28 @@ use Rattle.exports.proofs.xiphomera_check as xiphomera-check
 use Rattle.exports.proofs.xiphomera_plan_text as xiphomera-plan-text
 
 -- ---- xiphomera_search
-abbrev pub XSearch : TaskList → ℕ → ℕ → ℕ → List ℕ → ℕ → List ℕ → Type 0
-XSearch list cores engine limit t r t′ = SearchedAs r t′ (search cores (rows list) engine limit t)
+abbrev pub XiphomeraSearch : TaskList → ℕ → ℕ → ℕ → List ℕ → ℕ → List ℕ → Type 0
+XiphomeraSearch list cores engine limit t r t′ = SearchedAs r t′ (search cores (rows list) engine limit t)
 
 xiphomera-search-says : (κs n offset work deadline period rates cores engine limit table n′ offset′ work′ deadline′ period′ rates′ cores′ engine′ limit′ table′ r : _)
     → Says (λ M 𝓤 H A mem run. xiphomera-search.ensures-1 𝓤 H κs A mem run n offset work deadline period rates cores engine limit table n′ offset′ work′ deadline′ period′ rates′ cores′ engine′ limit′ table′ r)
-    (XSearch (listed n (now (offset′ .entry)) (now (work′ .entry)) (now (deadline′ .entry)) (now (period′ .entry)) (now (rates′ .entry))) cores engine limit (now (table′ .entry)) r (now (table′ .exit)))
+    (XiphomeraSearch (listed n (now (offset′ .entry)) (now (work′ .entry)) (now (deadline′ .entry)) (now (period′ .entry)) (now (rates′ .entry))) cores engine limit (now (table′ .entry)) r (now (table′ .exit)))
 xiphomera-search-says κs n offset work deadline period rates cores engine limit table n′ offset′ work′ deadline′ period′ rates′ cores′ engine′ limit′ table′ r M 𝓤 H A mem run = refl
 
 pub xiphomera-search-only : (list : TaskList) (cores engine limit : ℕ) (t : List ℕ) (r r′ : ℕ) (u u′ : List ℕ)
-    → XSearch list cores engine limit t r u → XSearch list cores engine limit t r′ u′ → (r ≡ r′) × (u ≡ u′)
+    → XiphomeraSearch list cores engine limit t r u → XiphomeraSearch list cores engine limit t r′ u′ → (r ≡ r′) × (u ≡ u′)
 xiphomera-search-only list cores engine limit t r r′ u u′ e e′ = (only (e .answer) (e′ .answer), only (e .left) (e′ .left))
 
 -- ---- xiphomera_check
-abbrev pub XCheck : TaskList → ℕ → List ℕ → ℕ → Type 0
-XCheck list cores t r = r ≡ checkedAs (check cores (rows list) t)
+abbrev pub XiphomeraCheck : TaskList → ℕ → List ℕ → ℕ → Type 0
+XiphomeraCheck list cores t r = r ≡ checkedAs (check cores (rows list) t)
 
 xiphomera-check-says : (κs n offset work deadline period rates cores table n′ offset′ work′ deadline′ period′ rates′ cores′ table′ r : _)
     → Says (λ M 𝓤 H A mem run. xiphomera-check.ensures-1 𝓤 H κs A mem run n offset work deadline period rates cores table n′ offset′ work′ deadline′ period′ rates′ cores′ table′ r)
-    (XCheck (listed n (now (offset′ .entry)) (now (work′ .entry)) (now (deadline′ .entry)) (now (period′ .entry)) (now (rates′ .entry))) cores (now (table′ .entry)) r)
+    (XiphomeraCheck (listed n (now (offset′ .entry)) (now (work′ .entry)) (now (deadline′ .entry)) (now (period′ .entry)) (now (rates′ .entry))) cores (now (table′ .entry)) r)
 xiphomera-check-says κs n offset work deadline period rates cores table n′ offset′ work′ deadline′ period′ rates′ cores′ table′ r M 𝓤 H A mem run = refl
 
-pub xiphomera-check-only : (list : TaskList) (cores : ℕ) (t : List ℕ) (r r′ : ℕ) → XCheck list cores t r → XCheck list cores t r′ → r ≡ r′
+pub xiphomera-check-only : (list : TaskList) (cores : ℕ) (t : List ℕ) (r r′ : ℕ) → XiphomeraCheck list cores t r → XiphomeraCheck list cores t r′ → r ≡ r′
 xiphomera-check-only list cores t r r′ = only
 
 -- ---- xiphomera_plan_text

@@ -54,7 +54,7 @@ pub record Keeps (m : ℕ) (ts : List Task) (t : List ℕ) (tick : ℕ → ℕ) 
   -- the four cells are those of the time that has passed
   pub shows : (s : ℕ) → s ≤ n → shown s .cells ≡ shownAt m ts t (timeAfter tick s)
   -- the start misses no slot
-  pub starts : shown 0 .missed ≡ 0
+  pub first-missed : shown 0 .missed ≡ 0
   -- and a step of elapsed number e misses e - 1
   pub misses : (s : ℕ) → s < n → shown (suc s) .missed ≡ elapsedAt tick s - 1
 
@@ -66,7 +66,7 @@ pub record Plays (m : ℕ) (ts : List Task) (t : List ℕ) (n : ℕ) (shown : �
   pub none-missed : (s : ℕ) → s ≤ n → shown s .missed ≡ 0
   -- at each time the four cells are those of the table's slot, shown as the time tells
   pub shows : (s : ℕ) → s ≤ n → shown s .cells ≡ shownAt m ts t s
-  -- the rates of a task's shown cells in its window K, at times O + K * T to O + K * T + D - 1, add up to exactly C
+  -- the rates of a task's shown cells in its window K, at times O + K * T to O + K * T + D - 1, add up to exactly C, once these have passed
   pub works : (i K : ℕ) → i ≢ 0 → i ≤ length ts → task ts i .offset .0 + (K * task ts i .period .0 + task ts i .deadline .0) ≤ suc n
       → sum (task ts i .deadline .0) (λ u. unitsIn ts i (shown (task ts i .offset .0 + (K * task ts i .period .0 + u)) .cells)) ≡ task ts i .work .0
   -- a task is shown in its windows only
@@ -158,7 +158,7 @@ module _ (list : TaskList) (m : ℕ) (t : List ℕ) (p : Player) (tick : ℕ →
       position-is = λ s l. ap (λ q. q .position) (left-at s l) ∙ ap (λ x. x % tableLength ts) (zero-add (timeAfter tick s));
       age-is = λ s l. ap (λ q. q .age) (left-at s l) ∙ ap (λ x. min x 1024) (zero-add (timeAfter tick s));
       shows = shows;
-      starts = ap (λ a. a .missed) start-shown;
+      first-missed = ap (λ a. a .missed) start-shown;
       misses = λ s l. ap (λ a. a .missed) (shown-at s l);
     }
 
@@ -176,7 +176,7 @@ module _ (list : TaskList) (m : ℕ) (t : List ℕ) (p : Player) (tick : ℕ →
     shows-at s l = all-kept .shows s l ∙ ap (shownAt m ts t) (time-is s l)
 
     missed-none : (s : ℕ) → s ≤ n → shown s .missed ≡ 0
-    missed-none zero l = all-kept .starts
+    missed-none zero l = all-kept .first-missed
     missed-none (suc s) l = all-kept .misses s l ∙ omega (arith, each s l)
 
     -- core by core

@@ -7,10 +7,14 @@ use denote.Ref.{now}
 use Rattle.laws.proofs.Only.{Says, only}
 use Rattle.tasks.specs.declared.TaskList.{TaskList}
 use Rattle.tasks.specs.Task.{rows}
-use Rattle.rules.specs.Search.{search}
+use Rattle.rules.specs.Search.{Searched, search}
 use Rattle.search.specs.declared.Answer.{Answer}
 use Rattle.search.specs.Board.{toldOf}
 use Rattle.search.proofs.search as the-search
+
+-- what is told of an answer and a buffer tells them apart from all others
+pub told-only : {x : Searched} (r r′ : Answer) (t t′ : List ℕ) → toldOf r t ≡ x → toldOf r′ t′ ≡ x → (r ≡ r′) × (t ≡ t′)
+told-only r r′ t t′ e e′ = let both = only e e′ in (λ i. record { verdict = both i .verdict; tries = both i .tries }, λ i. both i .buffer)
 
 -- ---- search: it finds the buffer t, answers r and leaves the buffer t′
 abbrev pub Search : TaskList → ℕ → ℕ → ℕ → List ℕ → Answer → List ℕ → Type 0
@@ -23,4 +27,4 @@ search-says κs list m engine limit table list′ m′ engine′ limit′ table�
 
 pub search-only : (list : TaskList) (m e b : ℕ) (t : List ℕ) (r r′ : Answer) (u u′ : List ℕ)
     → Search list m e b t r u → Search list m e b t r′ u′ → (r ≡ r′) × (u ≡ u′)
-search-only list m e b t r r′ u u′ h h′ = let both = only h h′ in (λ i. record { verdict = both i .verdict; tries = both i .tries }, λ i. both i .buffer)
+search-only list m e b t r r′ u u′ = told-only r r′ u u′
