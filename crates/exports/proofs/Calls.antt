@@ -19,9 +19,12 @@ use Rattle.exports.proofs.xiphomera_plan_text as xiphomera-plan-text
 abbrev pub XiphomeraSearch : TaskList → ℕ → ℕ → ℕ → List ℕ → ℕ → List ℕ → Type 0
 XiphomeraSearch list cores engine limit t r t′ = SearchedAs r t′ (search cores (rows list) engine limit t)
 
-xiphomera-search-says : (κs n offset work deadline period rates cores engine limit table n′ offset′ work′ deadline′ period′ rates′ cores′ engine′ limit′ table′ r : _)
-    → Says (λ M 𝓤 H A mem run. xiphomera-search.ensures-1 𝓤 H κs A mem run n offset work deadline period rates cores engine limit table n′ offset′ work′ deadline′ period′ rates′ cores′ engine′ limit′ table′ r)
-    (XiphomeraSearch (listed n (now (offset′ .entry)) (now (work′ .entry)) (now (deadline′ .entry)) (now (period′ .entry)) (now (rates′ .entry))) cores engine limit (now (table′ .entry)) r (now (table′ .exit)))
+xiphomera-search-says : (κs n offset work deadline period rates cores engine limit table : _)
+    (n′ offset′ work′ deadline′ period′ rates′ cores′ engine′ limit′ table′ r : _)
+    → Says (λ M 𝓤 H A mem run. xiphomera-search.ensures-1 𝓤 H κs A mem run n offset work deadline period rates cores engine limit table
+    n′ offset′ work′ deadline′ period′ rates′ cores′ engine′ limit′ table′ r)
+    (XiphomeraSearch (listed n (now (offset′ .entry)) (now (work′ .entry)) (now (deadline′ .entry)) (now (period′ .entry)) (now (rates′ .entry)))
+    cores engine limit (now (table′ .entry)) r (now (table′ .exit)))
 xiphomera-search-says κs n offset work deadline period rates cores engine limit table n′ offset′ work′ deadline′ period′ rates′ cores′ engine′ limit′ table′ r M 𝓤 H A mem run = refl
 
 pub xiphomera-search-only : (list : TaskList) (cores engine limit : ℕ) (t : List ℕ) (r r′ : ℕ) (u u′ : List ℕ)
@@ -33,8 +36,10 @@ abbrev pub XiphomeraCheck : TaskList → ℕ → List ℕ → ℕ → Type 0
 XiphomeraCheck list cores t r = r ≡ checkedAs (check cores (rows list) t)
 
 xiphomera-check-says : (κs n offset work deadline period rates cores table n′ offset′ work′ deadline′ period′ rates′ cores′ table′ r : _)
-    → Says (λ M 𝓤 H A mem run. xiphomera-check.ensures-1 𝓤 H κs A mem run n offset work deadline period rates cores table n′ offset′ work′ deadline′ period′ rates′ cores′ table′ r)
-    (XiphomeraCheck (listed n (now (offset′ .entry)) (now (work′ .entry)) (now (deadline′ .entry)) (now (period′ .entry)) (now (rates′ .entry))) cores (now (table′ .entry)) r)
+    → Says (λ M 𝓤 H A mem run. xiphomera-check.ensures-1 𝓤 H κs A mem run n offset work deadline period rates cores table
+    n′ offset′ work′ deadline′ period′ rates′ cores′ table′ r)
+    (XiphomeraCheck (listed n (now (offset′ .entry)) (now (work′ .entry)) (now (deadline′ .entry)) (now (period′ .entry)) (now (rates′ .entry)))
+    cores (now (table′ .entry)) r)
 xiphomera-check-says κs n offset work deadline period rates cores table n′ offset′ work′ deadline′ period′ rates′ cores′ table′ r M 𝓤 H A mem run = refl
 
 pub xiphomera-check-only : (list : TaskList) (cores : ℕ) (t : List ℕ) (r r′ : ℕ) → XiphomeraCheck list cores t r → XiphomeraCheck list cores t r′ → r ≡ r′
