@@ -7,26 +7,25 @@ use mathlib.Core.Path.{_≡_, refl, sym, ap, subst, _∙_}
 use mathlib.Core.Logic.{_≢_}
 use mathlib.Core.Bool.{Bool, true, false, not}
 use mathlib.Core.List.{List}
-use lib.Dec.{T, eqb}
+use lib.Dec.{ltb, eqb}
 use lib.Arith.{digits-div, digits-mod}
-use borrow.Author.Tests.{eq-eqb, ne-eqb, not-true, not-false}
+use borrow.Author.Tests.{eq-eqb, ne-eqb}
 use Rattle.laws.specs.Lists.{nth}
 use Rattle.laws.specs.Tests.{all}
 use Rattle.laws.proofs.TestLaws.{all-false, all-true}
 use Rattle.tasks.specs.declared.Task.{Task}
 use Rattle.tasks.specs.declared.TaskList.{TaskList}
 use Rattle.tasks.specs.declared.Work.{Work}
-use Rattle.tasks.specs.declared.Window.{Window}
-use Rattle.tasks.specs.declared.Window.the-variants.{Open, Closed}
 use Rattle.tasks.specs.Task.{workIn, rate, task, taskAt, rows}
-use Rattle.tasks.specs.Window.{openIf, windowAt}
+use Rattle.tasks.specs.Refusal.{unless}
+use Rattle.tasks.specs.Window.{isOpen, jobAt}
 use Rattle.tasks.specs.Instance.{Instance, instanceOf, Regular}
 use Rattle.tasks.proofs.SoundLaws.{rows-length, rows-task, InRange, SoundList, sound-list, length-whole, instance-regular}
 use Rattle.table.specs.Table.{cells, slotOf, coreOf, free}
 use Rattle.table.specs.Fault.{cellKind}
 use Rattle.checker.specs.declared.Effect.the-variants.{Nothing, Does, Faulty}
 use Rattle.checker.specs.Checks.{instanceFor, Ready, At, freeIn, counterAt, effectOf}
-use Rattle.checker.proofs.FaultLaws.{after, kind-unknown, kind-closed, kind-unrated, kind-twice, kind-none}
+use Rattle.checker.proofs.FaultLaws.{after, kind-unknown, kind-known}
 
 -- ---- what fits
 -- an instance of at most 16 tasks, 4096 cells, 1024 jobs a task, and rates up to 15
@@ -102,32 +101,17 @@ module _ (P : Instance) (f : ℕ → ℕ) (c : ℕ) where
 
   module _ (x : f c ≢ 0) where
     -- a task with a fault
-    effect-faulty : (k : ℕ) → cellKind P f c ≡ suc k → Faulty (suc k) ≡ effectOf P f c
+    effect-faulty : {k : ℕ} → k ≡ cellKind P f c → k ≢ 0 → Faulty k ≡ effectOf P f c
     unfolding effectOf
-    effect-faulty k e = rw (after (f c) x, e)
+    effect-faulty {k} e y = rw (after (f c) x, sym e, after k y)
 
     -- and one without
-    effect-does : cellKind P f c ≡ 0 → Does (counterAt (pred (f c)) (P .job (f c) (slotOf P c))) (record { 0 = P .rate (f c) (coreOf P c) }) ≡ effectOf P f c
+    effect-does : {k : ℕ} → k ≡ cellKind P f c → k ≡ 0
+        → Does (counterAt (pred (f c)) (P .job (f c) (slotOf P c))) (record { 0 = P .rate (f c) (coreOf P c) }) ≡ effectOf P f c
     unfolding effectOf
-    effect-does e = rw (after (f c) x, e)
+    effect-does {k} e z = rw (after (f c) x, sym e, z)
 
 -- ---- the effect as the code finds it
--- a test that did not pass, and one that did
-test-no : {b : Bool} → b ≡ false → T b → ⊥
-test-no e t = subst T e t
-
-test-yes : {b : Bool} → b ≡ true → T b
-test-yes e = subst T (sym e) tt
-
--- a window that is closed, and one that is open
-window-no : (b : Bool) (k : ℕ) → openIf b k ≡ Closed → T b → ⊥
-window-no true k e t = let z : _≡_ {A = ℕ} 0 1 = cc in omega arith
-window-no false k e t = t
-
-window-yes : (b : Bool) (k job : ℕ) → openIf b k ≡ Open job → T b × (job ≡ k)
-window-yes true k job e = (tt, cc)
-window-yes false k job e = let z : _≡_ {A = ℕ} 0 1 = cc in absurd (omega arith)
-
 module _ {list : TaskList} {m h : ℕ} {t : List ℕ} {slot core : ℕ} (at : At list m h t slot core) where
   abbrev P : Instance
   P = instanceFor list m h
@@ -157,12 +141,19 @@ module _ {list : TaskList} {m h : ℕ} {t : List ℕ} {slot core : ℕ} (at : At
     -- an unknown task number
     pub unknown-there : list .n < nth t c → Faulty 1 ≡ effectOf P (nth t) c
     unfolding instanceOf
-    unknown-there l = effect-faulty P (nth t) c x 0 (kind-unknown P (nth t) c x (rw rows-length l))
+    unknown-there l = effect-faulty P (nth t) c x (sym (kind-unknown P (nth t) c x (rw rows-length l))) (λ z. omega arith)
 
     module _ (l : nth t c ≤ list .n) {τ : Task} (e : τ ≡ taskAt list (nth t c - 1)) where
-      known : nth t c ≤ P .tasks
-      unfolding instanceOf
-      known = rw rows-length l
+      in-range : InRange m τ
+      in-range = task-there (at .ready) (nth t c) x l e
+
+      -- what its window is asked with
+      pub window-ready : (0 < h) × (h ≤ 1024) × (slot < h) × (0 < τ .period .0)
+      window-ready = (some-slot (at .ready), few-slots (at .ready), at .slot-in, in-range .period-pos)
+
+      -- and its work
+      pub work-ready : (rate τ core ≤ 15) × (1 ≤ 1024)
+      work-ready = (in-range .rate-le core (omega (arith, few-cores (at .ready), at .core-in)), omega arith)
 
       -- its task
       task-is : τ ≡ task (rows list) (nth t c)
@@ -172,48 +163,45 @@ module _ {list : TaskList} {m h : ℕ} {t : List ℕ} {slot core : ℕ} (at : At
           go zero x l = absurd (x refl)
           go (suc k) x l = ap (taskAt list) (omega arith) ∙ sym (rows-task list k l)
 
-      -- its window
-      window-is : windowAt h τ slot ≡ openIf (P .opens (nth t c) (slotOf P c)) (P .job (nth t c) (slotOf P c))
-      unfolding instanceOf windowAt
-      window-is = ap (λ σ. windowAt h σ slot) task-is ∙ ap (windowAt h (task (rows list) (nth t c))) (sym slot-of)
+      -- whether it is open
+      opens-is : isOpen h (τ .offset .0) (τ .deadline .0) (τ .period .0) slot ≡ P .opens (nth t c) (slotOf P c)
+      unfolding instanceOf
+      opens-is = λ i. isOpen h (task-is i .offset .0) (task-is i .deadline .0) (task-is i .period .0) (sym slot-of i)
+
+      -- its job
+      job-is : jobAt h (τ .offset .0) (τ .period .0) slot ≡ P .job (nth t c) (slotOf P c)
+      unfolding instanceOf
+      job-is = λ i. jobAt h (task-is i .offset .0) (task-is i .period .0) (sym slot-of i)
 
       -- its rate
       rate-is : rate τ core ≡ P .rate (nth t c) (coreOf P c)
       unfolding instanceOf
-      rate-is = ap (λ σ. rate σ core) task-is ∙ ap (rate (task (rows list) (nth t c))) (sym core-of)
+      rate-is = λ i. rate (task-is i) (sym core-of i)
 
-      module _ {w : Window} (ew : w ≡ windowAt h τ slot) where
-        -- a closed task
-        pub closed-there : w ≡ Closed → Faulty 2 ≡ effectOf P (nth t) c
-        closed-there q = effect-faulty P (nth t) c x 1 (kind-closed P (nth t) c x known (window-no (P .opens (nth t c) (slotOf P c)) _ (sym window-is ∙ sym ew ∙ q)))
+      module _ {o b : Bool} {k : ℕ} (eo : o ≡ isOpen h (τ .offset .0) (τ .deadline .0) (τ .period .0) slot) (eb : b ≡ freeIn t (slot * m) core (nth t c))
+          (ek : k ≡ unless o 2 (unless (ltb 0 (rate τ core)) 3 (unless b 4 0))) where
+        -- its tests are those of the cell
+        kind-is : k ≡ cellKind P (nth t) c
+        unfolding instanceOf
+        kind-is =
+            ek
+            ∙ (λ i. unless ((eo ∙ opens-is) i) 2 (unless (ltb 0 (rate-is i)) 3 (unless ((eb ∙ free-of (nth t c)) i) 4 0)))
+            ∙ sym (kind-known P (nth t) c x (rw rows-length l))
 
-        module _ {job : ℕ} (q : w ≡ Open job) where
-          opened : T (P .opens (nth t c) (slotOf P c)) × (job ≡ P .job (nth t c) (slotOf P c))
-          opened = window-yes (P .opens (nth t c) (slotOf P c)) _ job (sym window-is ∙ sym ew ∙ q)
+        -- one of them fails
+        pub faulty-there : k ≢ 0 → Faulty k ≡ effectOf P (nth t) c
+        faulty-there = effect-faulty P (nth t) c x kind-is
 
-          -- a rate of 0
-          pub unrated-there : rate τ core ≡ 0 → Faulty 3 ≡ effectOf P (nth t) c
-          unrated-there z = effect-faulty P (nth t) c x 2 (kind-unrated P (nth t) c x known (opened .0) (sym rate-is ∙ z))
+        -- none does, and the task does its work
+        pub does-there : k ≡ 0 → {job : ℕ} → job ≡ jobAt h (τ .offset .0) (τ .period .0) slot
+            → {place : ℕ} → place ≡ counterAt (nth t c - 1) job → {work : Work} → work ≡ workIn (rate τ core) (record { 0 = 1 })
+            → Does place work ≡ effectOf P (nth t) c
+        does-there z ej ep ew =
+            (λ i. Does ((ep ∙ (λ i. counterAt (pred-is (nth t c) i) ((ej ∙ job-is) i))) i) ((ew ∙ units) i)) ∙ effect-does P (nth t) c x kind-is z
+          where
+            pred-is : (v : ℕ) → v - 1 ≡ pred v
+            pred-is zero = omega arith
+            pred-is (suc v) = omega arith
 
-          module _ (s : rate τ core ≢ 0) {b : Bool} (eb : b ≡ freeIn t (slot * m) core (nth t c)) where
-            rated : 0 < P .rate (nth t c) (coreOf P c)
-            rated = omega (arith, rate-is)
-
-            -- a task that stands in the slot already
-            pub twice-there : not b ≡ true → Faulty 4 ≡ effectOf P (nth t) c
-            twice-there n = effect-faulty P (nth t) c x 3
-                (kind-twice P (nth t) c x known (opened .0) rated (test-no (sym (free-of (nth t c)) ∙ sym eb ∙ not-true b n)))
-
-            -- a task that does its work
-            pub does-there : not b ≡ false → {x : ℕ} → x ≡ counterAt (nth t c - 1) job → {work : Work} → work ≡ workIn (rate τ core) (record { 0 = 1 })
-                → Does x work ≡ effectOf P (nth t) c
-            does-there n ex ew =
-                (λ i. Does ((ex ∙ (λ i. counterAt (pred-is (nth t c) i) (opened .1 i))) i) ((ew ∙ units) i))
-                ∙ effect-does P (nth t) c x (kind-none P (nth t) c x known (opened .0) rated (test-yes (sym (free-of (nth t c)) ∙ sym eb ∙ not-false b n)))
-              where
-                pred-is : (v : ℕ) → v - 1 ≡ pred v
-                pred-is zero = omega arith
-                pred-is (suc v) = omega arith
-
-                units : workIn (rate τ core) (record { 0 = 1 }) ≡ record { 0 = P .rate (nth t c) (coreOf P c) }
-                units = let s : rate τ core * 1 ≡ P .rate (nth t c) (coreOf P c) = omega (arith, rate-is) in λ i. record { 0 = s i }
+            units : workIn (rate τ core) (record { 0 = 1 }) ≡ record { 0 = P .rate (nth t c) (coreOf P c) }
+            units = let s : rate τ core * 1 ≡ P .rate (nth t c) (coreOf P c) = omega (arith, rate-is) in λ i. record { 0 = s i }

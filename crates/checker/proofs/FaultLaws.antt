@@ -14,25 +14,13 @@ use Rattle.laws.proofs.TestLaws.{all-fails}
 use Rattle.laws.proofs.ListLaws.{seek-before, seek-some, first-none, first-zero}
 use Rattle.tasks.specs.Refusal.{unless}
 use Rattle.tasks.specs.Instance.{Instance}
+use Rattle.tasks.proofs.AnswerLaws.{unless-yes, unless-no}
 use Rattle.table.specs.Table.{cells, slotOf, coreOf, beside, done, free, Valid}
 use Rattle.table.specs.Fault.{kindOf, cellKind, jobKind, Fault, noFault, inCell, inJob, jobFault, fault}
 use Rattle.checker.specs.Faulty.{Fine, Wrong, unknown, closed, unrated, twice, Exact, WrongWork, too-little, too-much, FirstCell, FirstJob}
 use Rattle.table.proofs.TableLaws.{beside-before, beside-slot, make-free, free-apart}
 
--- ---- one test
--- it passed
-passes : (b : Bool) (k next : ℕ) → T b → unless b k next ≡ next
-unfolding unless
-passes true k next t = refl
-passes false k next t = absurd t
-
--- it failed
-fails : (b : Bool) (k next : ℕ) → (T b → ⊥) → unless b k next ≡ k
-unfolding unless
-fails true k next x = absurd (x tt)
-fails false k next x = refl
-
--- it did one or the other
+-- a test passed or failed
 tested : (b : Bool) → T b ⊎ (T b → ⊥)
 tested true = inl tt
 tested false = inr (λ t. t)
@@ -61,31 +49,31 @@ module _ (P : Instance) (f : ℕ → ℕ) where
     -- its number is unknown
     pub kind-unknown : P .tasks < f c → cellKind P f c ≡ 1
     unfolding kindOf
-    kind-unknown l = task-kind ∙ fails _ 1 _ (λ t. let k = leb→le (f c) (P .tasks) t in omega arith)
+    kind-unknown l = task-kind ∙ unless-no _ 1 _ (λ t. let k = leb→le (f c) (P .tasks) t in omega arith)
 
     module _ (known : f c ≤ P .tasks) where
-      -- it is closed
-      pub kind-closed : (T (P .opens (f c) (slotOf P c)) → ⊥) → cellKind P f c ≡ 2
+      -- it is known
+      pub kind-known : cellKind P f c ≡ unless (P .opens (f c) (slotOf P c)) 2 (unless (ltb 0 (P .rate (f c) (coreOf P c))) 3 (unless (free P c f (f c)) 4 0))
       unfolding kindOf
-      kind-closed n = task-kind ∙ passes _ 1 _ (le→leb _ _ known) ∙ fails _ 2 _ n
+      kind-known = task-kind ∙ unless-yes _ 1 _ (le→leb _ _ known)
+
+      -- and closed
+      kind-closed : (T (P .opens (f c) (slotOf P c)) → ⊥) → cellKind P f c ≡ 2
+      kind-closed n = kind-known ∙ unless-no _ 2 _ n
 
       module _ (o : T (P .opens (f c) (slotOf P c))) where
         -- its rate is 0
-        pub kind-unrated : P .rate (f c) (coreOf P c) ≡ 0 → cellKind P f c ≡ 3
-        unfolding kindOf
-        kind-unrated e = task-kind ∙ passes _ 1 _ (le→leb _ _ known) ∙ passes _ 2 _ o
-            ∙ fails _ 3 _ (λ t. let k = ltb→lt 0 (P .rate (f c) (coreOf P c)) t in omega arith)
+        kind-unrated : P .rate (f c) (coreOf P c) ≡ 0 → cellKind P f c ≡ 3
+        kind-unrated e = kind-known ∙ unless-yes _ 2 _ o ∙ unless-no _ 3 _ (λ t. let k = ltb→lt 0 (P .rate (f c) (coreOf P c)) t in omega arith)
 
         module _ (s : 0 < P .rate (f c) (coreOf P c)) where
           -- it stands in the slot already
-          pub kind-twice : (T (free P c f (f c)) → ⊥) → cellKind P f c ≡ 4
-          unfolding kindOf
-          kind-twice n = task-kind ∙ passes _ 1 _ (le→leb _ _ known) ∙ passes _ 2 _ o ∙ passes _ 3 _ (lt→ltb _ _ s) ∙ fails _ 4 0 n
+          kind-twice : (T (free P c f (f c)) → ⊥) → cellKind P f c ≡ 4
+          kind-twice n = kind-known ∙ unless-yes _ 2 _ o ∙ unless-yes _ 3 _ (lt→ltb _ _ s) ∙ unless-no _ 4 0 n
 
           -- it has no fault
-          pub kind-none : T (free P c f (f c)) → cellKind P f c ≡ 0
-          unfolding kindOf
-          kind-none y = task-kind ∙ passes _ 1 _ (le→leb _ _ known) ∙ passes _ 2 _ o ∙ passes _ 3 _ (lt→ltb _ _ s) ∙ passes _ 4 0 y
+          kind-none : T (free P c f (f c)) → cellKind P f c ≡ 0
+          kind-none y = kind-known ∙ unless-yes _ 2 _ o ∙ unless-yes _ 3 _ (lt→ltb _ _ s) ∙ unless-yes _ 4 0 y
 
   -- a cell has no fault, or the fault of its kind
   data Sorted (c : ℕ) : ℕ → Type 0 where
@@ -144,15 +132,15 @@ module _ (P : Instance) (f : ℕ → ℕ) where
   module _ (i k : ℕ) where
     job-exact : Exact P f i k → jobKind P f i k ≡ 0
     unfolding jobKind
-    job-exact e = passes _ 5 _ (le→leb (P .work i) (done P (cells P) f i k) (omega arith)) ∙ passes _ 6 0 (le→leb (done P (cells P) f i k) (P .work i) (omega arith))
+    job-exact e = unless-yes _ 5 _ (le→leb (P .work i) (done P (cells P) f i k) (omega arith)) ∙ unless-yes _ 6 0 (le→leb (done P (cells P) f i k) (P .work i) (omega arith))
 
     job-little : done P (cells P) f i k < P .work i → jobKind P f i k ≡ 5
     unfolding jobKind
-    job-little l = fails _ 5 _ (λ t. let h = leb→le (P .work i) (done P (cells P) f i k) t in omega arith)
+    job-little l = unless-no _ 5 _ (λ t. let h = leb→le (P .work i) (done P (cells P) f i k) t in omega arith)
 
     job-much : P .work i < done P (cells P) f i k → jobKind P f i k ≡ 6
     unfolding jobKind
-    job-much l = passes _ 5 _ (le→leb (P .work i) (done P (cells P) f i k) (omega arith)) ∙ fails _ 6 0 (λ t. let h = leb→le (done P (cells P) f i k) (P .work i) t in omega arith)
+    job-much l = unless-yes _ 5 _ (le→leb (P .work i) (done P (cells P) f i k) (omega arith)) ∙ unless-no _ 6 0 (λ t. let h = leb→le (done P (cells P) f i k) (P .work i) t in omega arith)
 
     exact-job : jobKind P f i k ≡ 0 → Exact P f i k
     exact-job e = ⊎-elim

@@ -4,14 +4,13 @@ ghost use Prim.Native.Nat.{_+_, _*_, _≤_, _<_};
 ghost use lib.ListN.{length};
 ghost use Rattle.laws.specs.Lists.{nth, seek};
 ghost use Rattle.tasks.specs.Task.{rows};
-ghost use Rattle.tasks.specs.Refusal.{Periods};
+ghost use Rattle.tasks.specs.Refusal.{unless, Periods};
 ghost use Rattle.table.specs.Fault.{check, checked};
 ghost use Rattle.checker.specs.Checks.{toldOf, instanceFor, Ready, At, freeIn, counterAt, effectOf, Counted, Scanned, workKind, countedKind, jobFaultIn};
 use tasks::MAX_TASKS;
 use tasks::Slots;
 use tasks::Soundness;
 use tasks::TaskList;
-use tasks::Window;
 use tasks::Work;
 
 // What the checker tells: that the table is valid; slot, core and kind of a faulty cell; task, job and kind of a faulty job; or a refusal.
@@ -64,6 +63,22 @@ enum Effect {
     Faulty(u8),
 }
 
+// The kind of fault of a task of the list in a cell, by 01's tests in their order; 0 if it passes them.
+fn kind(opens: bool, rated: bool, free: bool) -> u8
+    ensures { λ r. ⌜ r ≡ unless opens 2 (unless rated 3 (unless free 4 0)) ⌝ }
+{
+    if !opens {
+        return TASK_CLOSED;
+    }
+    if !rated {
+        return RATE_0;
+    }
+    if !free {
+        return ALREADY_IN_SLOT;
+    }
+    0
+}
+
 // The effect of a cell.
 fn cell_effect(list: TaskList, len: Slots, m: u8, table: &[u8], slot: u16, core: u8) -> Effect
     requires { ⌜ At list m (len .0) (now table) slot core ⌝ }
@@ -79,21 +94,15 @@ fn cell_effect(list: TaskList, len: Slots, m: u8, table: &[u8], slot: u16, core:
     }
     let place = value - 1;
     let task = tasks::task_at(list, place as usize);
-    let window = tasks::open_in(len, task, Slots(slot));
-    match window {
-        Window::Closed => Effect::Faulty(TASK_CLOSED),
-        Window::Open(job) => {
-            let rates = task.rates.0;
-            let rate = rates[core as usize];
-            if rate == 0 {
-                return Effect::Faulty(RATE_0);
-            }
-            if !free(table, first, core, value) {
-                return Effect::Faulty(ALREADY_IN_SLOT);
-            }
-            Effect::Does(counter_of(place, job), tasks::work_in(rate, Slots(1)))
-        }
+    let rates = task.rates.0;
+    let rate = rates[core as usize];
+    let opens = tasks::is_open(len, task, Slots(slot));
+    let fault = kind(opens, 0 < rate, free(table, first, core, value));
+    if fault != 0 {
+        return Effect::Faulty(fault);
     }
+    let job = tasks::job_at(len, task, Slots(slot));
+    Effect::Does(counter_of(place, job), tasks::work_in(rate, Slots(1)))
 }
 
 // The first faulty cell, in table order; `done` counts the work of the cells before it.

@@ -13,6 +13,7 @@ use Rattle.laws.specs.Lists.{tab}
 use Rattle.laws.proofs.TestLaws.{make-both, every-holds, holds-every}
 use Rattle.tasks.specs.Refusal.{within, unless}
 use Rattle.tasks.proofs.SoundLaws.{within-is}
+use Rattle.tasks.proofs.AnswerLaws.{unless-yes, unless-no}
 use Rattle.player.specs.declared.Player.{Player}
 use Rattle.player.specs.declared.Next.{Next}
 use Rattle.player.specs.declared.Shown.{Shown}
@@ -73,17 +74,7 @@ cells-at x u = mul-le-mul {n₂ = 1023} {m₂ = 4} (omega (arith, mod-lt x (u .s
 pub cells-below : {p : Player} {b : ℕ} (x : ℕ) → Unspoilt p → 4096 ≤ b → x % p .h * p .m < b
 cells-below x u l = omega (arith, cells-at x u)
 
--- a test that passes, and one that fails
-pub unless-yes : (b : Bool) (k next : ℕ) → T b → unless b k next ≡ next
-unfolding unless
-unless-yes true k next t = refl
-unless-yes false k next t = absurd t
-
-unless-no : (b : Bool) (k next : ℕ) → (T b → ⊥) → unless b k next ≡ k
-unfolding unless
-unless-no true k next x = absurd (x tt)
-unless-no false k next x = refl
-
+-- tests that both passed
 unless-none : (a b : Bool) → unless a 12 (unless b 15 0) ≡ 0 → T a × T b
 unfolding unless
 unless-none true true e = (tt, tt)

@@ -24,7 +24,7 @@ use Rattle.tasks.specs.declared.Soundness.the-variants.{Sound, Refused}
 use Rattle.tasks.specs.declared.Window.the-variants.{Open, Closed}
 use Rattle.tasks.specs.Task.{task, taskAt, rows}
 use Rattle.tasks.specs.Refusal.{mostRate, periodAt, within, unless, orNext, ratesFit, taskRefusal, listRefusal, tableLength, refusal, fitsIf, lengthOf, soundIf, soundnessOf, Periods}
-use Rattle.tasks.specs.Window.{place, openIf, windowAt}
+use Rattle.tasks.specs.Window.{place, isOpen, jobAt, openIf, windowAt}
 use Rattle.tasks.proofs.SoundLaws.{rows-length, rows-task, rates-at, within-is, list-range}
 
 -- ---- ranges and rates
@@ -64,6 +64,18 @@ rates-under m r h = go (ratesFit m r) (at-all 4 (λ j. leb (nth (r .0) j) (mostR
     go false t = absurd t
 
 -- ---- refusals, test by test
+-- a test that passed
+pub unless-yes : (b : Bool) (k next : ℕ) → T b → unless b k next ≡ next
+unfolding unless
+unless-yes true k next t = refl
+unless-yes false k next t = absurd t
+
+-- one that failed
+pub unless-no : (b : Bool) (k next : ℕ) → (T b → ⊥) → unless b k next ≡ k
+unfolding unless
+unless-no true k next x = absurd (x tt)
+unless-no false k next x = refl
+
 -- r is the test b, and it failed
 pub refuses : (r b : Bool) (k next : ℕ) → r ≡ b → not r ≡ true → k ≡ unless b k next
 unfolding unless
@@ -169,14 +181,21 @@ unfolding soundnessOf
 refused-answer m ts r x e = ap (λ b. soundIf b r (tableLength ts)) (sym (ne-eqb r 0 x)) ∙ ap (λ y. soundIf (eqb y 0) y (tableLength ts)) e
 
 -- ---- windows
--- what the test on a place p says, open
-pub window-open : (L t p : ℕ) (τ : Task) → p ≡ place L (τ .offset .0) t → p % τ .period .0 < τ .deadline .0 → Open (p / τ .period .0) ≡ windowAt L τ t
-unfolding windowAt
-window-open L t p τ e h =
-    ap (λ b. openIf b (p / τ .period .0)) (sym (lt-ltb _ _ h)) ∙ ap (λ x. openIf (ltb (x % τ .period .0) (τ .deadline .0)) (x / τ .period .0)) e
+-- the test on a place p
+pub open-at : (L O D T t p : ℕ) → p ≡ place L O t → ltb (p % T) D ≡ isOpen L O D T t
+open-at L O D T t p e = ap (λ x. ltb (x % T) D) e
 
--- and closed
-pub window-closed : (L t p : ℕ) (τ : Task) → p ≡ place L (τ .offset .0) t → τ .deadline .0 ≤ p % τ .period .0 → Closed ≡ windowAt L τ t
-unfolding windowAt
-window-closed L t p τ e h =
-    ap (λ b. openIf b (p / τ .period .0)) (sym (le-ltb _ _ h)) ∙ ap (λ x. openIf (ltb (x % τ .period .0) (τ .deadline .0)) (x / τ .period .0)) e
+-- and its job
+pub job-at : (L O T t p : ℕ) → p ≡ place L O t → p / T ≡ jobAt L O T t
+job-at L O T t p e = ap (λ x. x / T) e
+
+module _ (L t : ℕ) (τ : Task) (b : Bool) (e : b ≡ isOpen L (τ .offset .0) (τ .deadline .0) (τ .period .0) t) where
+  -- what is told of an open task
+  pub window-open : b ≡ true → (job : ℕ) → job ≡ jobAt L (τ .offset .0) (τ .period .0) t → Open job ≡ windowAt L τ t
+  unfolding windowAt
+  window-open h job ej = ap Open ej ∙ ap (λ x. openIf x (jobAt L (τ .offset .0) (τ .period .0) t)) (sym h ∙ e)
+
+  -- and of a closed one
+  pub window-closed : b ≡ false → Closed ≡ windowAt L τ t
+  unfolding windowAt
+  window-closed h = ap (λ x. openIf x (jobAt L (τ .offset .0) (τ .period .0) t)) (sym h ∙ e)

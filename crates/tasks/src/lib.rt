@@ -3,7 +3,7 @@ ghost use mathlib.Core.Path.{_≡_};
 ghost use Prim.Native.Nat.{_≤_, _<_, _/_};
 ghost use Rattle.tasks.specs.Task.{taskAt, rows, workIn};
 ghost use Rattle.tasks.specs.Refusal.{within as withinOf, ratesFit, taskRefusal, listRefusal, Periods, lengthOf, soundnessOf};
-ghost use Rattle.tasks.specs.Window.{place as placeOf, windowAt, lastSlot, Cyclic};
+ghost use Rattle.tasks.specs.Window.{place as placeOf, isOpen, jobAt, windowAt, lastSlot, Cyclic};
 
 // A number of slots of time.
 pub struct Slots(pub u16);
@@ -220,6 +220,24 @@ fn place(len: Slots, offset: Slots, slot: Slots) -> Slots
     Slots((slot.0 + (len.0 - offset.0 % len.0)) % len.0)
 }
 
+// Whether a task is open in a slot.
+pub fn is_open(len: Slots, t: Task, slot: Slots) -> bool
+    requires { ⌜ (0 < len .0) × (len .0 ≤ 1024) × (slot .0 < len .0) × (0 < t .period .0) ⌝ }
+    ensures { λ r. ⌜ r ≡ isOpen (len .0) (t .offset .0) (t .deadline .0) (t .period .0) (slot .0) ⌝ }
+{
+    let p = place(len, t.offset, slot);
+    p.0 % t.period.0 < t.deadline.0
+}
+
+// The number of a task's job in a slot.
+pub fn job_at(len: Slots, t: Task, slot: Slots) -> u16
+    requires { ⌜ (0 < len .0) × (len .0 ≤ 1024) × (slot .0 < len .0) × (0 < t .period .0) ⌝ }
+    ensures { λ r. ⌜ r ≡ jobAt (len .0) (t .offset .0) (t .period .0) (slot .0) ⌝ }
+{
+    let p = place(len, t.offset, slot);
+    p.0 / t.period.0
+}
+
 // Whether a task is open in a slot, and for which job.
 pub enum Window {
     Open(u16),
@@ -230,10 +248,8 @@ pub fn open_in(len: Slots, t: Task, slot: Slots) -> Window
     requires { ⌜ (0 < len .0) × (len .0 ≤ 1024) × (slot .0 < len .0) × (0 < t .period .0) ⌝ }
     ensures { λ r. ⌜ r ≡ windowAt (len .0) t (slot .0) ⌝ }
 {
-    let p = place(len, t.offset, slot);
-    let job = p.0 / t.period.0;
-    if p.0 % t.period.0 < t.deadline.0 {
-        Window::Open(job)
+    if is_open(len, t, slot) {
+        Window::Open(job_at(len, t, slot))
     } else {
         Window::Closed
     }

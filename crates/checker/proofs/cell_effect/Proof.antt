@@ -1,7 +1,7 @@
--- `checker::cell_effect` meets its contract: its tests are those of the cell's kind, in 01's order.
+-- `checker::cell_effect` meets its contract: the fault is the cell's, and where there is none the work is its job's.
 -- Assumes nothing.
 use native.Mathlib.Omega.{arith}
-use Rattle.checker.proofs.CellLaws.{few-listed, few-cores, some-slot, few-slots, first-small, cell-in, task-there, idle-there, unknown-there, closed-there, unrated-there, twice-there, does-there}
+use Rattle.checker.proofs.CellLaws.{few-listed, few-cores, first-small, cell-in, idle-there, unknown-there, window-ready, work-ready, faulty-there, does-there}
 use borrow.Author.Needs.{needs}
 use Rattle.checker.proofs.cell_effect.Statement.{statement}
 use Rattle.checker.proofs.cell_effect.Tie as tie
@@ -30,50 +30,36 @@ cast-task-at c = search needs
 task-at-requires : tie.Need-task-at-requires
 task-at-requires c κs = omega (arith, few-listed (c .before .before .before .before .before .pre .ready), c .if2 .left)
 
-open-in-requires : tie.Need-open-in-requires
-open-in-requires c κs =
-    let s = c .before .before .before .before .before .before in
-    (some-slot (s .pre .ready), few-slots (s .pre .ready), s .pre .slot-in, task-there (s .pre .ready) _ (c .before .before .before .if1 .left) (c .before .if2 .left) (c .task-at .ensures) .period-pos)
-
-enum-told : tie.Need-enum-told
-enum-told c = search needs
-
-enum-known-window : tie.Need-enum-known-window
-enum-known-window c = search needs
-
 array-read-rate : tie.Need-array-read-rate
-array-read-rate c = let s = c .before .before .before .before .before .before .before .before .before .before .before in omega (arith, few-cores (s .pre .ready), s .pre .core-in)
+array-read-rate c = let s = c .before .before .before .before .before .before .before in omega (arith, few-cores (s .pre .ready), s .pre .core-in)
+
+is-open-requires : tie.Need-is-open-requires
+is-open-requires c κs = window-ready (c .before .before .before .before .before .before .before .pre) (c .before .before .before .before .if1 .left) (c .before .before .if2 .left) (c .before .task-at .ensures)
+
+free-requires : tie.Need-free-requires
+free-requires c κs = let s = c .before .before .before .before .before .before .before .before in omega (arith, cell-in (s .pre .ready) _ _ (s .pre .slot-in) (s .pre .core-in), s .pre .ready .long)
+
+kind-requires : tie.Need-kind-requires
+kind-requires c κs = search needs
 
 returns-3 : tie.Need-returns-3
 returns-3 c =
-    unrated-there (c .before .before .before .before .before .before .before .before .before .before .before .before .pre) (c .before .before .before .before .before .before .before .before .before .if1 .left) (c .before .before .before .before .before .before .before .if2 .left) (c .before .before .before .before .before .before .task-at .ensures)
-    (c .before .before .before .before .before .open-in .ensures) (c .before .before .before .window .given .1) (c .if3 .taken)
+    faulty-there (c .before .before .before .before .before .before .before .before .before .before .before .pre) (c .before .before .before .before .before .before .before .before .if1 .left) (c .before .before .before .before .before .before .if2 .left) (c .before .before .before .before .before .task-at .ensures)
+    (c .before .before .before .is-open .ensures) (c .before .before .free .ensures) (c .before .kind .ensures) (c .if3 .taken)
 
-free-requires : tie.Need-free-requires
-free-requires c κs = let s = c .before .before .before .before .before .before .before .before .before .before .before .before in omega (arith, cell-in (s .pre .ready) _ _ (s .pre .slot-in) (s .pre .core-in), s .pre .ready .long)
-
-returns-4 : tie.Need-returns-4
-returns-4 c =
-    twice-there (c .before .before .before .before .before .before .before .before .before .before .before .before .before .before .pre) (c .before .before .before .before .before .before .before .before .before .before .before .if1 .left) (c .before .before .before .before .before .before .before .before .before .if2 .left) (c .before .before .before .before .before .before .before .before .task-at .ensures)
-    (c .before .before .before .before .before .before .before .open-in .ensures) (c .before .before .before .before .before .window .given .1) (c .before .before .if3 .left) (c .before .free .ensures) (c .if4 .taken)
+job-at-requires : tie.Need-job-at-requires
+job-at-requires c κs = window-ready (c .before .before .before .before .before .before .before .before .before .before .before .pre) (c .before .before .before .before .before .before .before .before .if1 .left) (c .before .before .before .before .before .before .if2 .left) (c .before .before .before .before .before .task-at .ensures)
 
 counter-of-requires : tie.Need-counter-of-requires
 counter-of-requires c κs = search needs
 
 work-in-requires : tie.Need-work-in-requires
-work-in-requires c κs =
-    let s = c .before .before .before .before .before .before .before .before .before .before .before .before .before .before .before in
-    (task-there (s .pre .ready) _ (c .before .before .before .before .before .before .before .before .before .before .before .before .if1 .left) (c .before .before .before .before .before .before .before .before .before .before .if2 .left) (c .before .before .before .before .before .before .before .before .before .task-at .ensures) .rate-le _ (omega (arith, few-cores (s .pre .ready), s .pre .core-in)), omega arith)
+work-in-requires c κs = work-ready (c .before .before .before .before .before .before .before .before .before .before .before .before .before .pre) (c .before .before .before .before .before .before .before .before .before .before .if1 .left) (c .before .before .before .before .before .before .before .before .if2 .left) (c .before .before .before .before .before .before .before .task-at .ensures)
 
-returns-5 : tie.Need-returns-5
-returns-5 c =
-    closed-there (c .before .before .before .before .before .before .before .before .before .pre) (c .before .before .before .before .before .before .if1 .left) (c .before .before .before .before .if2 .left) (c .before .before .before .task-at .ensures)
-    (c .before .before .open-in .ensures) (c .enum-told .given .1)
-
-returns-6 : tie.Need-returns-6
-returns-6 c =
-    does-there (c .before .before .before .before .before .before .before .before .before .before .before .before .before .before .before .before .pre) (c .before .before .before .before .before .before .before .before .before .before .before .before .before .if1 .left) (c .before .before .before .before .before .before .before .before .before .before .before .if2 .left) (c .before .before .before .before .before .before .before .before .before .before .task-at .ensures)
-    (c .before .before .before .before .before .before .before .before .before .open-in .ensures) (c .before .before .before .before .before .before .before .window .given .1) (c .before .before .before .before .if3 .left) (c .before .before .before .free .ensures) (c .before .before .if4 .left) (c .before .counter-of .ensures) (c .work-in .ensures)
+returns-4 : tie.Need-returns-4
+returns-4 c =
+    does-there (c .before .before .before .before .before .before .before .before .before .before .before .before .before .before .pre) (c .before .before .before .before .before .before .before .before .before .before .before .if1 .left) (c .before .before .before .before .before .before .before .before .before .if2 .left) (c .before .before .before .before .before .before .before .before .task-at .ensures)
+    (c .before .before .before .before .before .before .is-open .ensures) (c .before .before .before .before .before .free .ensures) (c .before .before .before .before .kind .ensures) (c .before .before .before .if3 .left) (c .before .before .job-at .ensures) (c .before .counter-of .ensures) (c .work-in .ensures)
 
 pub cell-effect-spec : {M : Type 1} → statement M
 cell-effect-spec =
@@ -87,14 +73,12 @@ cell-effect-spec =
     sub-place
     cast-task-at
     task-at-requires
-    open-in-requires
-    enum-told
-    enum-known-window
     array-read-rate
-    returns-3
+    is-open-requires
     free-requires
-    returns-4
+    kind-requires
+    returns-3
+    job-at-requires
     counter-of-requires
     work-in-requires
-    returns-5
-    returns-6)
+    returns-4)

@@ -1,0 +1,18 @@
+-- `tasks::is_open` meets its contract: the test on the place is the definition's.
+-- Assumes nothing.
+use Rattle.tasks.proofs.AnswerLaws.{open-at}
+use borrow.Author.Needs.{needs}
+use Rattle.tasks.proofs.is_open.Statement.{statement}
+use Rattle.tasks.proofs.is_open.Tie as tie
+
+place-requires : tie.Need-place-requires
+place-requires c κs = search needs
+
+rem-result : tie.Need-rem-result
+rem-result c = search needs
+
+returns : tie.Need-returns
+returns c = open-at _ _ _ _ _ _ (c .before .before .before .place .ensures)
+
+pub is-open-spec : {M : Type 1} → statement M
+is-open-spec = tie.close (tie.spec place-requires rem-result returns)

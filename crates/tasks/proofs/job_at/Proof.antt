@@ -1,0 +1,18 @@
+-- `tasks::job_at` meets its contract: the place is the definition's.
+-- Assumes nothing.
+use Rattle.tasks.proofs.AnswerLaws.{job-at}
+use borrow.Author.Needs.{needs}
+use Rattle.tasks.proofs.job_at.Statement.{statement}
+use Rattle.tasks.proofs.job_at.Tie as tie
+
+place-requires : tie.Need-place-requires
+place-requires c κs = search needs
+
+div-result : tie.Need-div-result
+div-result c = search needs
+
+returns : tie.Need-returns
+returns c = job-at _ _ _ _ _ (c .before .before .place .ensures)
+
+pub job-at-spec : {M : Type 1} → statement M
+job-at-spec = tie.close (tie.spec place-requires div-result returns)
