@@ -151,9 +151,9 @@ module _ {list : TaskList} {m h : ℕ} {t : List ℕ} {slot core : ℕ} (at : At
       pub window-ready : (0 < h) × (h ≤ 1024) × (slot < h) × (0 < τ .period .0)
       window-ready = (some-slot (at .ready), few-slots (at .ready), at .slot-in, in-range .period-pos)
 
-      -- and its work
-      pub work-ready : (rate τ core ≤ 15) × (1 ≤ 1024)
-      work-ready = (in-range .rate-le core (omega (arith, few-cores (at .ready), at .core-in)), omega arith)
+      -- and its rate
+      pub rate-few : rate τ core ≤ 15
+      rate-few = in-range .rate-le core (omega (arith, few-cores (at .ready), at .core-in))
 
       -- its task
       task-is : τ ≡ task (rows list) (nth t c)

@@ -110,9 +110,10 @@ fn scan_cells(list: TaskList, len: Slots, m: u8, table: &[u8], done: &mut [u16; 
     requires { ⌜ Ready list m (len .0) (now table) × Counted (instanceFor list m (len .0)) (nth (now table)) 0 (now done) ⌝ }
     ensures { λ r. ⌜ Scanned (instanceFor list m (len .0)) (nth (now (table .entry))) r (now (done .exit)) ⌝ }
 {
+    let slots = len.0;
     let mut slot: u16 = 0;
     'scan: loop {
-        if slot == len.0 {
+        if slot == slots {
             break 'scan Verdict::Valid;
         }
         for core in 0..m {

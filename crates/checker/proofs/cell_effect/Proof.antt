@@ -1,7 +1,7 @@
 -- `checker::cell_effect` meets its contract: the fault is the cell's, and where there is none the work is its job's.
 -- Assumes nothing.
 use native.Mathlib.Omega.{arith}
-use Rattle.checker.proofs.CellLaws.{few-listed, few-cores, first-small, cell-in, idle-there, unknown-there, window-ready, work-ready, faulty-there, does-there}
+use Rattle.checker.proofs.CellLaws.{few-listed, few-cores, first-small, cell-in, idle-there, unknown-there, window-ready, rate-few, faulty-there, does-there}
 use borrow.Author.Needs.{needs}
 use Rattle.checker.proofs.cell_effect.Statement.{statement}
 use Rattle.checker.proofs.cell_effect.Tie as tie
@@ -54,7 +54,7 @@ counter-of-requires : tie.Need-counter-of-requires
 counter-of-requires c κs = search needs
 
 work-in-requires : tie.Need-work-in-requires
-work-in-requires c κs = work-ready (c .before .before .before .before .before .before .before .before .before .before .before .before .before .pre) (c .before .before .before .before .before .before .before .before .before .before .if1 .left) (c .before .before .before .before .before .before .before .before .if2 .left) (c .before .before .before .before .before .before .before .task-at .ensures)
+work-in-requires c κs = (rate-few (c .before .before .before .before .before .before .before .before .before .before .before .before .before .pre) (c .before .before .before .before .before .before .before .before .before .before .if1 .left) (c .before .before .before .before .before .before .before .before .if2 .left) (c .before .before .before .before .before .before .before .task-at .ensures), omega arith)
 
 returns-4 : tie.Need-returns-4
 returns-4 c =

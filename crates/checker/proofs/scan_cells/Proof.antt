@@ -11,29 +11,29 @@ use Rattle.checker.proofs.scan_cells.Statement.{statement}
 use Rattle.checker.proofs.scan_cells.Tie as tie
 
 abbrev Inv-loop : tie.InvT-loop
-Inv-loop list len m table done₀ slot core₀ done core = Passed (instanceFor list m (len .0)) (nth table) (slot * m + core) done × (core ≤ m)
+Inv-loop list len m table done₀ slots slot core₀ done core = Passed (instanceFor list m (len .0)) (nth table) (slot * m + core) done × (core ≤ m)
 
 abbrev μ-loop : tie.MeasureT-loop
-μ-loop list len m table done₀ slot core₀ done core = m - core
+μ-loop list len m table done₀ slots slot core₀ done core = m - core
 
 abbrev Inv-scan : tie.InvT-scan
-Inv-scan list len m table done₀ slot₀ done slot = Passed (instanceFor list m (len .0)) (nth table) (slot * m) done × (slot ≤ len .0)
+Inv-scan list len m table done₀ slots slot₀ done slot = Passed (instanceFor list m (len .0)) (nth table) (slot * m) done × (slot ≤ len .0)
 
 abbrev μ-scan : tie.MeasureT-scan
-μ-scan list len m table done₀ slot₀ done slot = len .0 - slot
+μ-scan list len m table done₀ slots slot₀ done slot = len .0 - slot
 
 scan-holds : tie.Need-scan-holds Inv-loop μ-loop Inv-scan μ-scan
 scan-holds c = (as-far (begins (c .before .pre .1)) (omega arith), omega arith)
 
 loop-holds : tie.Need-loop-holds Inv-loop μ-loop Inv-scan μ-scan
-loop-holds c = (as-far (c .before .before .scan .inv .0) (omega arith), omega arith)
+loop-holds c = (as-far (c .before .scan .inv .0) (omega arith), omega arith)
 
 -- the cell of a turn
-at : (c : tie.In-loop Inv-loop μ-loop Inv-scan μ-scan) → At (c .before .before .before .before .before .before .args .list) (c .before .before .before .before .before .before .args .m) (c .before .before .before .before .before .before .args .len .0) (c .before .before .before .before .before .before .args .table .now) (c .before .before .before .before .scan .slot) (c .before .loop .core)
-at c = record { ready = c .before .before .before .before .before .before .pre .0; slot-in = omega arith; core-in = c .loop-test .taken }
+at : (c : tie.In-loop Inv-loop μ-loop Inv-scan μ-scan) → At (c .before .before .before .before .before .args .list) (c .before .before .before .before .before .args .m) (c .before .before .before .before .before .args .len .0) (c .before .before .before .before .before .args .table .now) (c .before .before .before .scan .slot) (c .before .loop .core)
+at c = search needs
 
 cell-effect-requires : tie.Need-cell-effect-requires Inv-loop μ-loop Inv-scan μ-scan
-cell-effect-requires c κs = at c
+cell-effect-requires c κs = search needs
 
 enum-told : tie.Need-enum-told Inv-loop μ-loop Inv-scan μ-scan
 enum-told c = search needs
@@ -60,8 +60,8 @@ element-write-done c = counter (c .before .before)
 enum-known-effect-2 : tie.Need-enum-known-effect-2 Inv-loop μ-loop Inv-scan μ-scan
 enum-known-effect-2 c = search needs
 
-add-t20 : tie.Need-add-t20 Inv-loop μ-loop Inv-scan μ-scan
-add-t20 c = search needs
+add-t21 : tie.Need-add-t21 Inv-loop μ-loop Inv-scan μ-scan
+add-t21 c = search needs
 
 add-core : tie.Need-add-core Inv-loop μ-loop Inv-scan μ-scan
 add-core c = search needs
@@ -89,7 +89,7 @@ scan-again : tie.Need-scan-again Inv-loop μ-loop Inv-scan μ-scan
 scan-again c = (as-far (c .before .loop .inv .0) (omega arith), omega arith)
 
 returns : tie.Need-returns Inv-loop μ-loop Inv-scan μ-scan
-returns c = ends-at (c .before .before .before .before .pre .0) (c .before .before .scan .inv .0) (c .if1 .taken)
+returns c = ends-at (c .before .before .before .pre .0) (c .before .scan .inv .0) (c .if1 .taken)
 
 returns-2 : tie.Need-returns-2 Inv-loop μ-loop Inv-scan μ-scan
 returns-2 c = stops-at (at (c .before .before .before .before)) (c .before .before .before .before .before .loop .inv .0) (c .before .before .before .cell-effect .ensures) (c .before .effect2 .given .1)
@@ -112,7 +112,7 @@ scan-cells-spec =
     add-done
     element-write-done
     enum-known-effect-2
-    add-t20
+    add-t21
     add-core
     loop-less
     loop-again

@@ -12,7 +12,7 @@ rem-result : tie.Need-rem-result
 rem-result c = search needs
 
 returns : tie.Need-returns
-returns c = open-at _ _ _ _ _ _ (c .before .before .before .place .ensures)
+returns c = search (needs, open-at)
 
 pub is-open-spec : {M : Type 1} → statement M
 is-open-spec = tie.close (tie.spec place-requires rem-result returns)

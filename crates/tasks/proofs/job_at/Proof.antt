@@ -12,7 +12,7 @@ div-result : tie.Need-div-result
 div-result c = search needs
 
 returns : tie.Need-returns
-returns c = job-at _ _ _ _ _ (c .before .before .place .ensures)
+returns c = search (needs, job-at)
 
 pub job-at-spec : {M : Type 1} → statement M
 job-at-spec = tie.close (tie.spec place-requires div-result returns)
