@@ -8,36 +8,20 @@ use mathlib.Core.Path.{_≡_, sym, ap, subst, _∙_}
 use mathlib.Core.Logic.{_≢_}
 use mathlib.Core.List.{List}
 use lib.ListN.{length}
-use borrow.Author.Tests.{le-leb, lt-leb, lt-ltb, le-ltb}
+use borrow.Author.Tests.{lt-ltb, le-ltb}
 use Rattle.laws.specs.Lists.{nth, seek, firstOf}
 use Rattle.laws.proofs.SumLaws.{gate-lt, gate-ge}
 use Rattle.laws.proofs.ListLaws.{seek-is, seek-none, seek-some}
 use Rattle.tasks.specs.declared.Task.{Task}
 use Rattle.tasks.specs.declared.TaskList.{TaskList}
 use Rattle.tasks.specs.Task.{task, taskAt, rows}
-use Rattle.tasks.specs.Refusal.{unless, Periods}
+use Rattle.tasks.specs.Refusal.{Periods}
 use Rattle.tasks.proofs.SoundLaws.{rows-length, rows-task}
-use Rattle.table.specs.Fault.{checked, inJob}
+use Rattle.table.specs.Fault.{workKind, firstJob, checked, inJob}
 use Rattle.checker.specs.declared.Verdict.the-variants.{Valid, Job}
-use Rattle.checker.specs.Checks.{toldOf, counterAt, workKind, countedKind, firstJob, jobFaultIn}
+use Rattle.checker.specs.Checks.{toldOf, counterAt, countedKind, jobFaultIn}
 
--- ---- the work of a job
--- too little
-pub work-little : (C d : ℕ) → d < C → 5 ≡ workKind C d
-unfolding workKind unless
-work-little C d l = rw (lt-leb C d l)
-
--- too much
-pub work-much : (C d : ℕ) → C < d → 6 ≡ workKind C d
-unfolding workKind unless
-work-much C d l = rw (le-leb C d (omega arith), lt-leb d C l)
-
--- exactly C
-pub work-exact : (C d : ℕ) → C ≤ d → d ≤ C → 0 ≡ workKind C d
-unfolding workKind unless
-work-exact C d l m = rw (le-leb C d l, le-leb d C m)
-
--- as its counter tells it
+-- ---- the work of a job, as its counter tells it
 pub counted-is : (counters : List ℕ) (place C k : ℕ) {x kind : ℕ} → x ≡ counterAt place k → kind ≡ workKind C (nth counters x) → kind ≡ countedKind counters place C k
 unfolding countedKind
 counted-is counters place C k e q = q ∙ ap (λ x. workKind C (nth counters x)) e

@@ -3,11 +3,11 @@
 use Prim.Native.Nat.{ℕ, zero, suc, pred, _≤_, _<_}
 use native.Mathlib.Decide.{ℕ-discrete}
 use native.Mathlib.Omega.{arith}
-use mathlib.Core.Path.{_≡_, refl, sym, _∙_}
+use mathlib.Core.Path.{_≡_, refl, sym, subst, _∙_}
 use mathlib.Core.Logic.{_≢_, _⊎_, inl, inr, ⊎-elim}
 use mathlib.Core.Bool.{Bool, true, false, not}
-use lib.Dec.{T, leb, ltb, eqb, leb→le, ltb→lt, le→leb, lt→ltb, eqb→eq}
-use borrow.Author.Tests.{lt-ltb, le-ltb}
+use lib.Dec.{T, ltb, eqb, leb→le, ltb→lt, le→leb, lt→ltb, eqb→eq}
+use borrow.Author.Tests.{le-leb, lt-leb, lt-ltb, le-ltb}
 use Rattle.laws.specs.Lists.{seek, firstOf}
 use Rattle.laws.proofs.SumLaws.{lt-or-ge}
 use Rattle.laws.proofs.TestLaws.{all-fails}
@@ -16,9 +16,9 @@ use Rattle.tasks.specs.Refusal.{unless}
 use Rattle.tasks.specs.Instance.{Instance}
 use Rattle.tasks.proofs.AnswerLaws.{unless-yes, unless-no}
 use Rattle.table.specs.Table.{cells, slotOf, coreOf, beside, done, free, Valid}
-use Rattle.table.specs.Fault.{kindOf, cellKind, jobKind, Fault, noFault, inCell, inJob, jobFault, fault}
+use Rattle.table.specs.Fault.{kindOf, cellKind, workKind, jobKind, Fault, noFault, inCell, inJob, firstJob, jobFault, fault}
 use Rattle.checker.specs.Faulty.{Fine, Wrong, unknown, closed, unrated, twice, Exact, WrongWork, too-little, too-much, FirstCell, FirstJob}
-use Rattle.table.proofs.TableLaws.{beside-before, beside-slot, make-free, free-apart}
+use Rattle.table.proofs.TableLaws.{beside-before, beside-slot, free-apart}
 
 -- a test passed or failed
 tested : (b : Bool) → T b ⊎ (T b → ⊥)
@@ -29,6 +29,22 @@ tested false = inr (λ t. t)
 pub after : (v : ℕ) → v ≢ 0 → v ≡ suc (pred v)
 after zero x = absurd (x refl)
 after (suc v) x = refl
+
+-- ---- the work of a job
+-- too little
+pub work-little : (C d : ℕ) → d < C → 5 ≡ workKind C d
+unfolding workKind unless
+work-little C d l = rw (lt-leb C d l)
+
+-- too much
+pub work-much : (C d : ℕ) → C < d → 6 ≡ workKind C d
+unfolding workKind unless
+work-much C d l = rw (le-leb C d (omega arith), lt-leb d C l)
+
+-- exactly C
+pub work-exact : (C d : ℕ) → C ≤ d → d ≤ C → 0 ≡ workKind C d
+unfolding workKind unless
+work-exact C d l m = rw (le-leb C d l, le-leb d C m)
 
 module _ (P : Instance) (f : ℕ → ℕ) where
   -- ---- cells
@@ -130,28 +146,16 @@ module _ (P : Instance) (f : ℕ → ℕ) where
   -- ---- jobs
   -- a job has exactly its work, or the fault of its kind
   module _ (i k : ℕ) where
-    job-exact : Exact P f i k → jobKind P f i k ≡ 0
-    unfolding jobKind
-    job-exact e = unless-yes _ 5 _ (le→leb (P .work i) (done P (cells P) f i k) (omega arith)) ∙ unless-yes _ 6 0 (le→leb (done P (cells P) f i k) (P .work i) (omega arith))
-
-    job-little : done P (cells P) f i k < P .work i → jobKind P f i k ≡ 5
-    unfolding jobKind
-    job-little l = unless-no _ 5 _ (λ t. let h = leb→le (P .work i) (done P (cells P) f i k) t in omega arith)
-
-    job-much : P .work i < done P (cells P) f i k → jobKind P f i k ≡ 6
-    unfolding jobKind
-    job-much l = unless-yes _ 5 _ (le→leb (P .work i) (done P (cells P) f i k) (omega arith)) ∙ unless-no _ 6 0 (λ t. let h = leb→le (done P (cells P) f i k) (P .work i) t in omega arith)
-
     exact-job : jobKind P f i k ≡ 0 → Exact P f i k
     exact-job e = ⊎-elim
-        (λ l. absurd (omega (arith, job-little l)))
-        (λ l. ⊎-elim (λ m. absurd (omega (arith, job-much m))) (λ m. omega arith) (lt-or-ge (P .work i) (done P (cells P) f i k)))
+        (λ l. absurd (omega (arith, work-little _ _ l)))
+        (λ l. ⊎-elim (λ m. absurd (omega (arith, work-much _ _ m))) (λ m. omega arith) (lt-or-ge (P .work i) (done P (cells P) f i k)))
         (lt-or-ge (done P (cells P) f i k) (P .work i))
 
     job-wrong : jobKind P f i k ≢ 0 → WrongWork P f i k (jobKind P f i k)
     job-wrong x = ⊎-elim
-        (λ l. rw (job-little l) (too-little l))
-        (λ l. ⊎-elim (λ m. rw (job-much m) (too-much m)) (λ m. absurd (x (job-exact (omega arith)))) (lt-or-ge (P .work i) (done P (cells P) f i k)))
+        (λ l. subst (WrongWork P f i k) (work-little _ _ l) (too-little l))
+        (λ l. ⊎-elim (λ m. subst (WrongWork P f i k) (work-much _ _ m) (too-much m)) (λ m. absurd (x (sym (work-exact _ _ l m)))) (lt-or-ge (P .work i) (done P (cells P) f i k)))
         (lt-or-ge (done P (cells P) f i k) (P .work i))
 
   -- ---- the first fault
@@ -180,7 +184,7 @@ module _ (P : Instance) (f : ℕ → ℕ) where
         exact-job (suc j) l (first-zero (P .jobs (suc j)) (jobKind P f (suc j)) (seek-before (P .tasks) row j (omega arith)) l q)
 
     job-named : Says (jobFault P f)
-    unfolding jobFault row
+    unfolding firstJob row
     job-named = ⊎-elim
         (λ l. rw (lt-ltb (seek (P .tasks) row) (P .tasks) l) (found l))
         (λ l. rw (le-ltb (seek (P .tasks) row) (P .tasks) l) (record {

@@ -1,6 +1,6 @@
 -- The checker's answer from its parts: refusals, the first faulty cell, and, where no cell is faulty, the first faulty job by the counters.
 -- Assumes nothing.
-use Prim.Native.Nat.{ℕ, zero, suc, pred, _+_, _*_, _≤_, _<_}
+use Prim.Native.Nat.{ℕ, zero, suc, pred, _*_, _≤_, _<_}
 use native.Mathlib.Nat.{mul-le-mul}
 use native.Mathlib.Omega.{arith}
 use mathlib.Core.Path.{_≡_, refl, sym, ap, subst, _∙_}
@@ -24,11 +24,11 @@ use Rattle.tasks.specs.Refusal.{unless, orNext, refusal, tableLength, IsSound, 
 use Rattle.tasks.specs.Instance.{Instance, instanceOf}
 use Rattle.tasks.proofs.SoundLaws.{sound-list, soundness-sound, soundness-refused}
 use Rattle.table.specs.Table.{cells, done}
-use Rattle.table.specs.Fault.{cellKind, jobKind, noFault, inJob, jobFault, fault, refused, checked, checkedIf, check}
+use Rattle.table.specs.Fault.{cellKind, workKind, jobKind, noFault, inJob, firstJob, jobFault, fault, refused, checked, checkedIf, check}
 use Rattle.checker.proofs.Verdict.{the-type}
 use Rattle.checker.specs.declared.Verdict.{Verdict}
 use Rattle.checker.specs.declared.Verdict.the-variants.{Valid, Cell, Job, Refused}
-use Rattle.checker.specs.Checks.{toldOf, instanceFor, Ready, counterAt, Counted, cellFault, Scanned, workKind, countedKind, firstJob, jobFaultIn}
+use Rattle.checker.specs.Checks.{toldOf, instanceFor, Ready, counterAt, Counted, cellFault, Scanned, countedKind, jobFaultIn}
 use Rattle.checker.proofs.CellLaws.{Small, few-listed, few-slots, ready-small}
 
 -- ---- refusals
@@ -94,7 +94,7 @@ job-same n jobs g h e = ⊎-elim
 -- the counters tell the first faulty job
 jobs-counted : {list : TaskList} {m h : ℕ} {t : List ℕ} → Ready list m h t → {counters : List ℕ} → Counted (instanceFor list m h) (nth t) (cells (instanceFor list m h)) counters
     → jobFaultIn counters h (rows list) ≡ jobFault (instanceFor list m h) (nth t)
-unfolding instanceOf jobFaultIn jobFault firstJob countedKind workKind jobKind
+unfolding instanceOf jobFaultIn countedKind
 jobs-counted {list} {m} {h} {t} ready {counters} n = job-same (length (rows list)) (instanceFor list m h .jobs)
     (λ i. countedKind counters (pred i) (task (rows list) i .work .0)) (jobKind (instanceFor list m h) (nth t))
     (λ i k l q. ap (workKind (task (rows list) (suc i) .work .0)) (n .work i k (omega (arith, small .few-tasks)) (omega (arith, small .few-jobs (suc i)))))

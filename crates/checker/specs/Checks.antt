@@ -4,17 +4,17 @@ use Prim.Native.Nat.{ℕ, zero, suc, pred, _+_, _*_, _/_, _≤_, _<_}
 use mathlib.Core.Path.{_≡_}
 use mathlib.Core.Bool.{Bool, not}
 use mathlib.Core.List.{List}
-use lib.Dec.{leb, ltb, eqb}
+use lib.Dec.{ltb, eqb}
 use lib.ListN.{length}
 use Rattle.laws.specs.Tests.{all}
-use Rattle.laws.specs.Lists.{nth, seek, firstOf}
+use Rattle.laws.specs.Lists.{nth, seek}
 use Rattle.tasks.specs.declared.Task.{Task}
 use Rattle.tasks.specs.declared.TaskList.{TaskList}
 use Rattle.tasks.specs.Task.{task, rows}
-use Rattle.tasks.specs.Refusal.{unless, IsSound, tableLength}
+use Rattle.tasks.specs.Refusal.{IsSound, tableLength}
 use Rattle.tasks.specs.Instance.{Instance, instanceOf}
 use Rattle.table.specs.Table.{cells, slotOf, coreOf, done}
-use Rattle.table.specs.Fault.{cellKind, Fault, noFault, inCell, inJob, faultIf, Checked, refused, checked}
+use Rattle.table.specs.Fault.{cellKind, workKind, Fault, noFault, inCell, inJob, faultIf, firstJob, Checked, refused, checked}
 use Rattle.checker.specs.declared.Verdict.{Verdict}
 use Rattle.checker.specs.declared.Verdict.the-variants.{Valid, Cell, Job, Refused}
 use Rattle.checker.specs.declared.Effect.{Effect}
@@ -79,22 +79,11 @@ pub record Scanned (P : Instance) (f : ℕ → ℕ) (r : Verdict) (counters : Li
   pub counted : Counted P f (seek (cells P) (cellKind P f)) counters
 
 -- ---- jobs
--- the fault of a job of work C that has done d: 5 too little, 6 too much; 0 none
-unfoldable pub workKind : ℕ → ℕ → ℕ
-workKind C d = unless (leb C d) 5 (unless (leb d C) 6 0)
-
 -- the fault of job k of the task at a place of the list, by its counter
 unfoldable pub countedKind : List ℕ → ℕ → ℕ → ℕ → ℕ
 countedKind counters place C k = workKind C (nth counters (counterAt place k))
 
--- the first faulty job of n tasks, by task and job number
-unfoldable pub firstJob : ℕ → (ℕ → ℕ) → (ℕ → ℕ → ℕ) → Fault
-firstJob n jobs kind =
-    let i = seek n (λ j. firstOf (jobs (suc j)) (kind (suc j))) in
-    let k = seek (jobs (suc i)) (kind (suc i)) in
-    faultIf (ltb i n) (inJob (suc i) k (kind (suc i) k)) noFault
-
--- the same by the counters, in tables of h slots
+-- the first faulty job by the counters, in tables of h slots
 unfoldable pub jobFaultIn : List ℕ → ℕ → List Task → Fault
 jobFaultIn counters h ts =
     firstJob (length ts) (λ i. h / task ts i .period .0) (λ i. countedKind counters (pred i) (task ts i .work .0))

@@ -12,7 +12,7 @@ use Rattle.tasks.specs.Refusal.{within, unless, orNext, ratesFit, taskRefusal, 
 use Rattle.tasks.specs.Window.{place, highest}
 use Rattle.tasks.specs.Instance.{instanceOf}
 use Rattle.table.specs.Table.{share, done, free}
-use Rattle.table.specs.Fault.{kindOf, cellKind, jobKind, jobFault, fault, Checked, refused, checked, inCell, inJob, check}
+use Rattle.table.specs.Fault.{kindOf, cellKind, workKind, firstJob, fault, Checked, refused, checked, inCell, inJob, check}
 use Rattle.rules.specs.Walk.{walk}
 use Rattle.rules.specs.Rules.{tests, permitted, settled, closed, evenRates, twin, idleTried, ruleA, ruleB, quickly}
 use Rattle.rules.specs.Search.{Searched, told, searchRefusal, search}
@@ -56,7 +56,7 @@ reply s = searched (s .verdict) (s .tries) (s .buffer)
 -- what the definitions answer
 answer : Question → Reply
 unfolding reply gate sum tab over seek euclid gcdOf lcmOf lcmsOf within unless orNext ratesFit taskRefusal listRefusal tableLength refusal place highest instanceOf
-    share done free kindOf cellKind jobKind jobFault fault check walk tests permitted settled closed evenRates twin idleTried ruleA ruleB quickly
+    share done free kindOf cellKind workKind firstJob fault check walk tests permitted settled closed evenRates twin idleTried ruleA ruleB quickly
     told searchRefusal search
 answer (searching m ts e b room) = reply (search m ts e b (replicate room 77))
 answer (sounding m ts) = sounded (refusal m ts) (tableLength ts)

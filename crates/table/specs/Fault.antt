@@ -27,11 +27,13 @@ cellKind P f c = idleOr (f c)
     idleOr zero = 0
     idleOr (suc v) = kindOf P c f (suc v)
 
--- the fault of job k of task i: 5 too little work, 6 too much; 0 none
-unfoldable pub jobKind : Instance → (ℕ → ℕ) → ℕ → ℕ → ℕ
-jobKind P f i k =
-    unless (leb (P .work i) (done P (cells P) f i k)) 5
-    (unless (leb (done P (cells P) f i k) (P .work i)) 6 0)
+-- the fault of a job of work C that has done d: 5 too little work, 6 too much; 0 none
+unfoldable pub workKind : ℕ → ℕ → ℕ
+workKind C d = unless (leb C d) 5 (unless (leb d C) 6 0)
+
+-- the fault of job k of task i
+abbrev pub jobKind : Instance → (ℕ → ℕ) → ℕ → ℕ → ℕ
+jobKind P f i k = workKind (P .work i) (done P (cells P) f i k)
 
 -- what the checker tells: slot, core and kind, or task, job and kind; slots and jobs count from 0, cores and tasks from 1
 pub data Fault : Type 0 where
@@ -44,12 +46,16 @@ abbrev pub faultIf : Bool → Fault → Fault → Fault
 faultIf true x next = x
 faultIf false x next = next
 
+-- the first faulty job of n tasks, by task and job number
+unfoldable pub firstJob : ℕ → (ℕ → ℕ) → (ℕ → ℕ → ℕ) → Fault
+firstJob n jobs kind =
+    let i = seek n (λ j. firstOf (jobs (suc j)) (kind (suc j))) in
+    let k = seek (jobs (suc i)) (kind (suc i)) in
+    faultIf (ltb i n) (inJob (suc i) k (kind (suc i) k)) noFault
+
 -- the first fault of the jobs
-unfoldable pub jobFault : Instance → (ℕ → ℕ) → Fault
-jobFault P f =
-    let i = seek (P .tasks) (λ j. firstOf (P .jobs (suc j)) (jobKind P f (suc j))) in
-    let k = seek (P .jobs (suc i)) (jobKind P f (suc i)) in
-    faultIf (ltb i (P .tasks)) (inJob (suc i) k (jobKind P f (suc i) k)) noFault
+abbrev pub jobFault : Instance → (ℕ → ℕ) → Fault
+jobFault P f = firstJob (P .tasks) (P .jobs) (jobKind P f)
 
 -- the first fault of the table
 unfoldable pub fault : Instance → (ℕ → ℕ) → Fault

@@ -1,6 +1,6 @@
 -- `checker::job_kind` meets its contract: its tests are the definition's.
 -- Assumes nothing.
-use Rattle.checker.proofs.CountLaws.{work-little, work-much, work-exact}
+use Rattle.checker.proofs.FaultLaws.{work-little, work-much, work-exact}
 use Rattle.checker.proofs.job_kind.Statement.{statement}
 use Rattle.checker.proofs.job_kind.Tie as tie
 
