@@ -1,1 +1,2 @@
+mod ToldLaws
 mod Calls

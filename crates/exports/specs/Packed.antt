@@ -6,6 +6,7 @@ use mathlib.Core.List.{List}
 use Rattle.tasks.specs.declared.TaskList.{TaskList}
 use Rattle.table.specs.Fault.{noFault, inCell, inJob, Checked, refused, checked}
 use Rattle.rules.specs.Search.{Searched}
+use Rattle.player.specs.declared.Shown.{Shown}
 
 -- a list as numbers, from its arrays
 abbrev pub listed : ℕ → List ℕ → List ℕ → List ℕ → List ℕ → List ℕ → TaskList
@@ -27,3 +28,12 @@ checkedAs (checked noFault) = 0
 checkedAs (checked (inCell slot core kind)) = packedAs 1 slot core kind
 checkedAs (checked (inJob task job kind)) = packedAs 2 task job kind
 checkedAs (refused number) = packedAs 3 0 0 number
+
+-- what a start or a step answers, as one number: verdict × 2^32 + missed
+abbrev pub toldAs : Shown → ℕ
+toldAs s = s .verdict * 2 ^ 32 + s .missed
+
+-- a start or a step, told as that number and its four cells
+pub record ShownAs (r : ℕ) (cells : List ℕ) (s : Shown) : Type 0 where
+  pub answer : r ≡ toldAs s
+  pub shown : cells ≡ s .cells

@@ -7,20 +7,44 @@ ghost use Rattle.rules.specs.Search.{search as searchOf};
 ghost use lib.ListN.{length};
 ghost use lib.Dec.{leb};
 ghost use Rattle.frames.specs.Write.{Written};
+ghost use Rattle.player.specs.Player.{stepped, afterStep, started, afterStart};
 ghost use Rattle.planner.specs.Answer.{answerTo};
-ghost use Rattle.exports.specs.Packed.{listed, SearchedAs, packedAs, checkedAs};
+ghost use Rattle.exports.specs.Packed.{listed, SearchedAs, packedAs, checkedAs, toldAs, ShownAs};
 use checker::Verdict;
+use player::Player;
+use player::Shown;
 use tasks::TaskList;
+
+// A list, from its arrays.
+fn list_of<'a>(
+    n: u8,
+    offset: &'a [u16; 16],
+    work: &'a [u16; 16],
+    deadline: &'a [u16; 16],
+    period: &'a [u16; 16],
+    rates: &'a [u8; 64],
+) -> TaskList
+    ensures { λ r. ⌜ r ≡ listed n (now (offset .entry)) (now (work .entry)) (now (deadline .entry)) (now (period .entry)) (now (rates .entry)) ⌝ }
+{
+    TaskList {
+        n,
+        offset: *offset,
+        work: *work,
+        deadline: *deadline,
+        period: *period,
+        rates: *rates,
+    }
+}
 
 // The search of n tasks, each number in an array of its own, and four rates a task: verdict * 2^32 + tries.
 #[no_mangle]
-pub extern "C" fn xiphomera_search(
+pub extern "C" fn xiphomera_search<'a>(
     n: u8,
-    offset: &[u16; 16],
-    work: &[u16; 16],
-    deadline: &[u16; 16],
-    period: &[u16; 16],
-    rates: &[u8; 64],
+    offset: &'a [u16; 16],
+    work: &'a [u16; 16],
+    deadline: &'a [u16; 16],
+    period: &'a [u16; 16],
+    rates: &'a [u8; 64],
     cores: u8,
     engine: u8,
     limit: u32,
@@ -28,14 +52,7 @@ pub extern "C" fn xiphomera_search(
 ) -> u64
     ensures { λ r. ⌜ SearchedAs r (now (table .exit)) (searchOf cores (rows (listed n (now (offset .entry)) (now (work .entry)) (now (deadline .entry)) (now (period .entry)) (now (rates .entry)))) engine limit (now (table .entry))) ⌝ }
 {
-    let list = TaskList {
-        n,
-        offset: *offset,
-        work: *work,
-        deadline: *deadline,
-        period: *period,
-        rates: *rates,
-    };
+    let list = list_of(n, offset, work, deadline, period, rates);
     let answer = search::search(list, cores, engine, limit, table);
     (answer.verdict as u64) * 4294967296 + answer.tries as u64
 }
@@ -51,26 +68,19 @@ fn packed(class: u64, a: u16, b: u16, c: u8) -> u64
 // The check of a table for the list that the arrays make: class * 2^48 + a * 2^32 + b * 2^16 + c.
 // Class 0 is valid; 1 a faulty cell: slot, core, kind; 2 a faulty job: task, job, kind; 3 a refusal: 0, 0, its number.
 #[no_mangle]
-pub extern "C" fn xiphomera_check(
+pub extern "C" fn xiphomera_check<'a>(
     n: u8,
-    offset: &[u16; 16],
-    work: &[u16; 16],
-    deadline: &[u16; 16],
-    period: &[u16; 16],
-    rates: &[u8; 64],
+    offset: &'a [u16; 16],
+    work: &'a [u16; 16],
+    deadline: &'a [u16; 16],
+    period: &'a [u16; 16],
+    rates: &'a [u8; 64],
     cores: u8,
     table: &[u8],
 ) -> u64
     ensures { λ r. ⌜ r ≡ checkedAs (checkOf cores (rows (listed n (now (offset .entry)) (now (work .entry)) (now (deadline .entry)) (now (period .entry)) (now (rates .entry)))) (now (table .entry))) ⌝ }
 {
-    let list = TaskList {
-        n,
-        offset: *offset,
-        work: *work,
-        deadline: *deadline,
-        period: *period,
-        rates: *rates,
-    };
+    let list = list_of(n, offset, work, deadline, period, rates);
     let verdict = checker::check_table(list, cores, table);
     match verdict {
         Verdict::Valid => 0,
@@ -86,4 +96,44 @@ pub extern "C" fn xiphomera_plan_text(text: &[u8], out: &mut [u8]) -> usize
     ensures { λ r. ⌜ Written (leb 15376 (length (now (out .entry)))) (answerTo (now (text .entry))) (now (out .entry)) r (now (out .exit)) ⌝ }
 {
     planner::plan_text(text, out)
+}
+
+// What a start or a step answers, as one number: verdict * 2^32 + missed.
+fn told(shown: Shown) -> u64
+    ensures { λ r. ⌜ r ≡ toldAs shown ⌝ }
+{
+    (shown.verdict as u64) * 4294967296 + shown.missed as u64
+}
+
+// A start of the player on the record where it stands: verdict * 2^32 + missed, and four cells, one a core.
+#[no_mangle]
+pub extern "C" fn xiphomera_start<'a>(
+    player: &mut Player,
+    n: u8,
+    offset: &'a [u16; 16],
+    work: &'a [u16; 16],
+    deadline: &'a [u16; 16],
+    period: &'a [u16; 16],
+    rates: &'a [u8; 64],
+    cores: u8,
+    table: &[u8],
+    tick: u32,
+    cells: &mut [u8; 4],
+) -> u64
+    ensures { λ r. ⌜ ShownAs r (now (cells .exit)) (started cores (rows (listed n (now (offset .entry)) (now (work .entry)) (now (deadline .entry)) (now (period .entry)) (now (rates .entry)))) (now (table .entry)) tick) × (now (player .exit) ≡ afterStart cores (rows (listed n (now (offset .entry)) (now (work .entry)) (now (deadline .entry)) (now (period .entry)) (now (rates .entry)))) (now (table .entry)) tick (now (player .entry))) ⌝ }
+{
+    let list = list_of(n, offset, work, deadline, period, rates);
+    let shown = player::start(player, list, cores, table, tick);
+    *cells = shown.cells;
+    told(shown)
+}
+
+// A step of the player's record where it stands: verdict * 2^32 + missed, and four cells, one a core.
+#[no_mangle]
+pub extern "C" fn xiphomera_step(player: &mut Player, tick: u32, cells: &mut [u8; 4]) -> u64
+    ensures { λ r. ⌜ ShownAs r (now (cells .exit)) (stepped (now (player .entry)) tick) × (now (player .exit) ≡ afterStep (now (player .entry)) tick) ⌝ }
+{
+    let shown = player::step(player, tick);
+    *cells = shown.cells;
+    told(shown)
 }

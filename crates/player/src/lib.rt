@@ -14,6 +14,7 @@ use tasks::Soundness;
 use tasks::TaskList;
 
 // The player's record. The fields stand so that C lays them out without gaps.
+#[repr(C)]
 pub struct Player {
     pub last: u32,
     pub h: u16,
