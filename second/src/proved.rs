@@ -1,6 +1,7 @@
 //! The proved library, by its C functions. Slices pass as pointer, then length.
 
-use second::tasks::{Problem, Task, MOST_CORES, MOST_TASKS};
+use second::player::{Record, Shown};
+use second::tasks::{Problem, Task, MOST_CELLS, MOST_CORES, MOST_TASKS};
 
 extern "C" {
     fn xiphomera_search(
@@ -28,6 +29,23 @@ extern "C" {
         table: *const u8,
         table_length: usize,
     ) -> u64;
+
+    fn xiphomera_start(
+        player: &mut Player,
+        tasks: u8,
+        offset: &[u16; MOST_TASKS],
+        work: &[u16; MOST_TASKS],
+        deadline: &[u16; MOST_TASKS],
+        period: &[u16; MOST_TASKS],
+        rates: &[[u8; MOST_CORES]; MOST_TASKS],
+        cores: u8,
+        table: *const u8,
+        table_length: usize,
+        tick: u32,
+        cells: &mut [u8; MOST_CORES],
+    ) -> u64;
+
+    fn xiphomera_step(player: &mut Player, tick: u32, cells: &mut [u8; MOST_CORES]) -> u64;
 
     fn xiphomera_plan_text(
         text: *const u8,
@@ -82,6 +100,43 @@ pub fn check(problem: &Problem, table: &[u8]) -> [u16; 4] {
     [48, 32, 16, 0].map(|shift| (answer >> shift) as u16)
 }
 
+/// The verdict of a start, and what it shows.
+pub fn start(player: &mut Player, problem: &Problem, table: &[u8], tick: u32) -> (u32, Shown) {
+    let list = Lent::of(&problem.tasks);
+    let mut cells = [255; MOST_CORES];
+    // SAFETY: the arrays have the lengths that the library reads, and only `player` and `cells` are written.
+    let answer = unsafe {
+        xiphomera_start(
+            player,
+            list.tasks,
+            &list.offset,
+            &list.work,
+            &list.deadline,
+            &list.period,
+            &list.rates,
+            problem.cores,
+            table.as_ptr(),
+            table.len(),
+            tick,
+            &mut cells,
+        )
+    };
+    told(answer, cells)
+}
+
+/// The verdict of a step, and what it shows.
+pub fn step(player: &mut Player, tick: u32) -> (u32, Shown) {
+    let mut cells = [255; MOST_CORES];
+    // SAFETY: only `player` and `cells` are written.
+    let answer = unsafe { xiphomera_step(player, tick, &mut cells) };
+    told(answer, cells)
+}
+
+fn told(answer: u64, cells: [u8; MOST_CORES]) -> (u32, Shown) {
+    let missed = answer as u32;
+    ((answer >> 32) as u32, Shown { cells, missed })
+}
+
 /// The text of the answer to the text of a problem.
 pub fn plan_text(text: &[u8]) -> Vec<u8> {
     let mut out = vec![0; LONGEST_ANSWER];
@@ -90,6 +145,49 @@ pub fn plan_text(text: &[u8]) -> Vec<u8> {
         unsafe { xiphomera_plan_text(text.as_ptr(), text.len(), out.as_mut_ptr(), out.len()) };
     out.truncate(written);
     out
+}
+
+/// The player's record as the library lays it out.
+#[repr(C)]
+pub struct Player {
+    last: u32,
+    h: u16,
+    position: u16,
+    age: u16,
+    offsets: [u16; MOST_TASKS],
+    m: u8,
+    n: u8,
+    table: [u8; MOST_CELLS],
+}
+
+impl From<&Record> for Player {
+    fn from(record: &Record) -> Player {
+        Player {
+            last: record.last,
+            h: record.h,
+            position: record.position,
+            age: record.age,
+            offsets: record.offsets,
+            m: record.cores,
+            n: record.tasks,
+            table: record.table,
+        }
+    }
+}
+
+impl From<&Player> for Record {
+    fn from(player: &Player) -> Record {
+        Record {
+            h: player.h,
+            cores: player.m,
+            tasks: player.n,
+            offsets: player.offsets,
+            table: player.table,
+            position: player.position,
+            age: player.age,
+            last: player.last,
+        }
+    }
 }
 
 /// A list as the library takes it: each number in an array of its own; any count above 16 stands for too many.

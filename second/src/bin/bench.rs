@@ -1,11 +1,12 @@
 //! Times the proved walk, the same walk in ordinary Rust, and this program's own walk, which is laid
-//! out another way for speed, over the same lists in one process.
+//! out another way for speed, over the same lists in one process; then the checkers and the players.
 
 #[path = "../proved.rs"]
-#[allow(dead_code)] // the search and the checker are timed
+#[allow(dead_code)] // the search, the checker and a step are timed
 mod proved;
 
 use second::check::first_fault;
+use second::player::{self, Record};
 use second::random::Random;
 use second::tasks::{Problem, Task, MOST_CELLS, MOST_CORES, MOST_SLOTS, MOST_TASKS};
 use second::verdict::Ending;
@@ -23,6 +24,9 @@ const LISTS: usize = 12;
 
 /// A walk of fewer tries is not timed.
 const LEAST_TRIES: u32 = 10_000;
+
+/// How many steps of the player are timed at a time.
+const STEPS: u32 = 10_000;
 
 /// The slots of a short table and of a long one.
 const SHORT: usize = 12;
@@ -78,6 +82,16 @@ fn main() {
     let [ordinary, proved] = cells_checked();
     println!("millions of cells checked per second, a valid table of {MOST_CELLS} cells:");
     println!("  ordinary Rust {ordinary:.1}, proved {proved:.1}");
+
+    let [short, long] = step_costs([timed_record(1, 1), timed_record(MOST_SLOTS, MOST_CORES)]);
+    println!("ns per step of the player, H = 1 on one core and H = {MOST_SLOTS} on {MOST_CORES}:");
+    for (player, name) in ["ordinary Rust", "proved"].into_iter().enumerate() {
+        let (short, long) = (short[player], long[player]);
+        println!(
+            "  {name} {short:.2} and {long:.2}, ratio {:.2}",
+            long / short
+        );
+    }
 
     println!("bytes of stack for a table of {MOST_CELLS} cells:");
     for (name, stack) in NAMES.into_iter().zip(WALKS.map(stack_taken)) {
@@ -155,6 +169,46 @@ fn cells_checked() -> [f64; 2] {
         let least = least.min().expect("some rounds");
         MOST_CELLS as f64 / least.as_secs_f64() / 1e6
     })
+}
+
+/// Nanoseconds per step, tick by tick, of the ordinary and the proved player over each record.
+fn step_costs(records: [Record; 2]) -> [[f64; 2]; 2] {
+    let mut players = records.map(|record| (proved::Player::from(&record), record));
+    let mut least = [[Duration::MAX; 2]; 2];
+    for round in 0..100 * ROUNDS as u32 {
+        let ticks = || (1..=STEPS).map(|step| round * STEPS + step);
+        for ((proved, ordinary), least) in players.iter_mut().zip(&mut least) {
+            let start = Instant::now();
+            for tick in ticks() {
+                let _ = black_box(player::step(ordinary, tick));
+            }
+            let between = Instant::now();
+            for tick in ticks() {
+                black_box(proved::step(proved, tick));
+            }
+            least[0] = (between - start).min(least[0]);
+            least[1] = between.elapsed().min(least[1]);
+        }
+    }
+    least.map(|both| both.map(|time| time.as_nanos() as f64 / f64::from(STEPS)))
+}
+
+/// A player's record at slot 0, with a table of so many slots that has no idle cell.
+fn timed_record(slots: usize, cores: usize) -> Record {
+    let mut record = Record {
+        h: slots as u16,
+        cores: cores as u8,
+        tasks: cores as u8,
+        offsets: [0; MOST_TASKS],
+        table: [0; MOST_CELLS],
+        position: 0,
+        age: 0,
+        last: 0,
+    };
+    for (at, cell) in record.table[..slots * cores].iter_mut().enumerate() {
+        *cell = (at % cores) as u8 + 1;
+    }
+    record
 }
 
 /// Lists of several H whose walk ends as asked.

@@ -1,4 +1,4 @@
-//! Holds the proved library against this program over random lists:
+//! Holds the proved library against this program over random lists and records:
 //!
 //!     compare --lists N --seed S [--program PATH]
 //!
@@ -9,11 +9,12 @@ mod proved;
 
 use second::check::{first_fault, Fault};
 use second::frames::{plan_text, problem_text};
+use second::player::{Record, Shown};
 use second::random::Random;
-use second::tasks::Problem;
-use second::verdict::Ending;
+use second::tasks::{Problem, MOST_CORES};
+use second::verdict::{Ending, Refusal};
 use second::walk::search;
-use second::{brute, lists};
+use second::{brute, lists, player};
 use std::collections::BTreeMap;
 use std::fmt::Debug;
 use std::io::Write;
@@ -25,6 +26,9 @@ const PROGRAM_TEXTS: u64 = 300;
 
 /// For one list in so many, a tiny one is searched by brute force too.
 const TINY: u64 = 10;
+
+/// So many steps follow each start.
+const STEPS: usize = 5;
 
 /// So many lists of the largest size come first.
 const LARGE: usize = 12;
@@ -40,7 +44,9 @@ fn main() -> ExitCode {
     for list in 0..options.lists {
         let problem = lists::problem(&mut random);
         compare_search(&mut random, &mut tally, &problem);
-        compare_check(&mut random, &mut tally, &problem);
+        let table = lists::table(&mut random, &problem);
+        compare_check(&mut tally, &problem, &table);
+        compare_player(&mut random, &mut tally, &problem, &table);
         if list % TINY == 0 {
             compare_brute(&mut random, &mut tally);
         }
@@ -176,9 +182,8 @@ fn compare_brute(random: &mut Random, tally: &mut Tally) {
 }
 
 /// Checks a table. Number 0 is a valid one, 1 to 6 are kinds of fault.
-fn compare_check(random: &mut Random, tally: &mut Tally, problem: &Problem) {
-    let table = lists::table(random, problem);
-    let (what, answer) = match first_fault(problem, &table) {
+fn compare_check(tally: &mut Tally, problem: &Problem, table: &[u8]) {
+    let (what, answer) = match first_fault(problem, table) {
         Ok(None) => ("check, kind", [0; 4]),
         Ok(Some(Fault::Cell { slot, core, kind })) => {
             ("check, kind", [1, slot as u16, core as u16, kind as u16])
@@ -188,10 +193,51 @@ fn compare_check(random: &mut Random, tally: &mut Tally, problem: &Problem) {
         }
         Err(refusal) => ("check, refusal", [3, 0, 0, refusal as u16]),
     };
-    let proved = proved::check(problem, &table);
+    let proved = proved::check(problem, table);
     tally.hold((what, answer[3].into()), answer, proved, || {
         format!("{}table {table:?}", shown(problem))
     });
+}
+
+/// Starts a table on a record that holds anything, and goes on by steps of every size: from the
+/// record that the start makes, or from the old one, spoilt or not. The whole record is compared.
+fn compare_player(random: &mut Random, tally: &mut Tally, problem: &Problem, table: &[u8]) {
+    let mut record = lists::record(random);
+    let mut proved_player = proved::Player::from(&record);
+    let tick = lists::tick(random);
+    let answer = told(player::start(problem, table, tick, &mut record));
+    let proved = proved::start(&mut proved_player, problem, table, tick);
+    tally.hold(
+        ("start, verdict", answer.0),
+        (answer, &record),
+        (proved, &Record::from(&proved_player)),
+        || format!("{}table {table:?} at tick {tick}", shown(problem)),
+    );
+    for _ in 0..STEPS {
+        let before = record.clone();
+        let elapsed = lists::elapsed(random, record.h);
+        let tick = record.last.wrapping_add(elapsed);
+        let answer = told(player::step(&mut record, tick));
+        let proved = proved::step(&mut proved_player, tick);
+        tally.hold(
+            ("step, verdict", answer.0),
+            (answer, &record),
+            (proved, &Record::from(&proved_player)),
+            || format!("{before:?} at tick {tick}"),
+        );
+    }
+}
+
+/// The verdict of a start or a step, and what it shows: nothing where it is refused.
+fn told(answer: Result<Shown, Refusal>) -> (u32, Shown) {
+    let nothing = Shown {
+        cells: [0; MOST_CORES],
+        missed: 0,
+    };
+    answer.map_or_else(
+        |refusal| (refusal as u32, nothing),
+        |shown| (Ending::Found as u32, shown),
+    )
 }
 
 /// Holds the answer to a text against that of the library or a program.

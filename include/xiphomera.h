@@ -1,0 +1,110 @@
+/* Xiphomera for C and C++: the player on the board, and the search, the checker and the program's texts beside it.
+ *
+ * A list of n tasks comes as one array of 16 for each number and one of 64 for the rates, four a task; what lies
+ * behind the n-th task is not looked at. A table comes as a pointer and its number of cells: H x m of them, slot by
+ * slot from slot 0, core by core within a slot; a cell is 0 (idle) or a task number. Every call copes with every
+ * number that it is handed and keeps nothing of what it is lent. No pointer may be null, and what is written to
+ * may not overlap with anything else that the call is lent. */
+#ifndef XIPHOMERA_H
+#define XIPHOMERA_H
+
+#include <stddef.h>
+#include <stdint.h>
+
+#ifdef __cplusplus
+extern "C" {
+#endif
+
+/* Verdicts. */
+enum {
+    XIPHOMERA_FOUND = 0,         /* search: table found; check: valid; start and step: the cells are shown */
+    XIPHOMERA_BAD_COUNT = 1,     /* no task, or over 16 */
+    XIPHOMERA_BAD_CORES = 2,     /* cores not 1..4 */
+    XIPHOMERA_BAD_PERIOD = 3,    /* a period not 1..1024 */
+    XIPHOMERA_BAD_DEADLINE = 4,  /* a deadline not 1..period */
+    XIPHOMERA_BAD_WORK = 5,      /* a work not 1..4096 */
+    XIPHOMERA_BAD_OFFSET = 6,    /* an offset not 0..1023 */
+    XIPHOMERA_BAD_RATE = 7,      /* a rate not 0..15, or not 0 beyond the board's last core */
+    XIPHOMERA_BAD_LENGTH = 8,    /* H, the least common multiple of all periods, over 1024 */
+    XIPHOMERA_BAD_ENGINE = 9,    /* engine not 0 or 1 */
+    XIPHOMERA_BAD_BUFFER = 10,   /* table buffer shorter than H x m */
+    XIPHOMERA_INVALID = 11,      /* start: table not valid */
+    XIPHOMERA_SPOILT = 12,       /* step: record spoilt */
+    XIPHOMERA_NONE = 13,         /* search: no table of length H is valid */
+    XIPHOMERA_STOPPED = 14,      /* search: the limit of tries was used up */
+    XIPHOMERA_PAST = 15,         /* step: tick from the past */
+    XIPHOMERA_TOO_LONG = 20,     /* text: over 1024 bytes */
+    XIPHOMERA_NOT_LINE = 21,     /* text: not pairs of 0-9A-F, empty, or no line feed */
+    XIPHOMERA_UNKNOWN_KIND = 22, /* text: unknown kind */
+    XIPHOMERA_WRONG_LENGTH = 23, /* text: wrong length */
+    XIPHOMERA_OUT_OF_PLACE = 24  /* text: out of place, a task number above 16, or no end */
+};
+
+/* ---- The player */
+
+/* The player's record, 4140 bytes without gaps. It is the caller's; a start makes it and a step advances it. */
+typedef struct xiphomera_player {
+    uint32_t last;        /* at 0: the last tick */
+    uint16_t h;           /* at 4: H, the slots of the table */
+    uint16_t position;    /* at 6: the slot that was shown last */
+    uint16_t age;         /* at 8: the slots since the start, but not past 1024 */
+    uint16_t offsets[16]; /* at 10: the tasks' offsets; unused ones are 0 */
+    uint8_t m;            /* at 42: the cores */
+    uint8_t n;            /* at 43: the task count */
+    uint8_t table[4096];  /* at 44: the table; unused cells are 0 */
+} xiphomera_player;
+
+/* What a start and a step answer is verdict x 2^32 + missed; what a search answers, verdict x 2^32 + tries. */
+static inline uint32_t xiphomera_verdict(uint64_t answer) { return (uint32_t)(answer >> 32); }
+static inline uint32_t xiphomera_missed(uint64_t answer) { return (uint32_t)answer; }
+static inline uint32_t xiphomera_tries(uint64_t answer) { return (uint32_t)answer; }
+
+/* Makes the record for a valid table at a tick and shows slot 0: four cells, one a core. Refusals 1 to 8, 10 and 11
+ * leave the record as it was and show four 0 cells. */
+uint64_t xiphomera_start(xiphomera_player *player, uint8_t n, const uint16_t offset[16], const uint16_t work[16],
+                         const uint16_t deadline[16], const uint16_t period[16], const uint8_t rates[64],
+                         uint8_t cores, const uint8_t *table, size_t table_length, uint32_t tick, uint8_t cells[4]);
+
+/* Advances the record to a tick and shows the slot that it has come to: four cells, one a core. Refusals 12 and 15
+ * leave the record as it was and show four 0 cells. The ticks may start again at zero. */
+uint64_t xiphomera_step(xiphomera_player *player, uint32_t tick, uint8_t cells[4]);
+
+/* ---- The search and the checker */
+
+/* Searches a table, with engine 0 (plain) or 1 (quick) and at most `limit` tries. Unless it is refused (1 to 10), the
+ * first H x m cells of the buffer are the table found, or 0; the others are not touched. */
+uint64_t xiphomera_search(uint8_t n, const uint16_t offset[16], const uint16_t work[16], const uint16_t deadline[16],
+                          const uint16_t period[16], const uint8_t rates[64], uint8_t cores, uint8_t engine,
+                          uint32_t limit, uint8_t *table, size_t table_length);
+
+/* Checks a table: class x 2^48 + a x 2^32 + b x 2^16 + c. */
+uint64_t xiphomera_check(uint8_t n, const uint16_t offset[16], const uint16_t work[16], const uint16_t deadline[16],
+                         const uint16_t period[16], const uint8_t rates[64], uint8_t cores, const uint8_t *table,
+                         size_t table_length);
+
+/* The classes of a check's answer. */
+enum {
+    XIPHOMERA_VALID = 0,        /* a, b and c are 0 */
+    XIPHOMERA_FAULTY_CELL = 1,  /* slot, core, kind: 1 unknown task number, 2 task closed, 3 rate 0, 4 already in this slot */
+    XIPHOMERA_FAULTY_JOB = 2,   /* task, job, kind: 5 too little work, 6 too much */
+    XIPHOMERA_REFUSED = 3       /* 0, 0, the verdict: 1 to 8 or 10 */
+};
+static inline unsigned xiphomera_class(uint64_t answer) { return (unsigned)(answer >> 48); }
+static inline unsigned xiphomera_a(uint64_t answer) { return (uint16_t)(answer >> 32); }
+static inline unsigned xiphomera_b(uint64_t answer) { return (uint16_t)(answer >> 16); }
+static inline unsigned xiphomera_c(uint64_t answer) { return (uint16_t)answer; }
+
+/* ---- Texts */
+
+/* Room for the longest answer. */
+#define XIPHOMERA_LONGEST_ANSWER 15376
+
+/* Writes the text of the answer to the text of a problem and gives its bytes; gives 0 and writes nothing if `out` is
+ * shorter than the longest answer. */
+size_t xiphomera_plan_text(const uint8_t *text, size_t text_length, uint8_t *out, size_t out_length);
+
+#ifdef __cplusplus
+}
+#endif
+
+#endif
