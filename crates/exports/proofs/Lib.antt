@@ -1,2 +1,2 @@
-mod ToldLaws
+mod TellLaws
 mod Calls

@@ -29,11 +29,7 @@ checkedAs (checked (inCell slot core kind)) = packedAs 1 slot core kind
 checkedAs (checked (inJob task job kind)) = packedAs 2 task job kind
 checkedAs (refused number) = packedAs 3 0 0 number
 
--- what a start or a step answers, as one number: verdict × 2^32 + missed
-abbrev pub toldAs : Shown → ℕ
-toldAs s = s .verdict * 2 ^ 32 + s .missed
-
--- a start or a step, told as that number and its four cells
-pub record ShownAs (r : ℕ) (cells : List ℕ) (s : Shown) : Type 0 where
-  pub answer : r ≡ toldAs s
+-- what a start or a step shows, told as one number, verdict × 2^32 + missed, and its four cells
+pub record ToldAs (r : ℕ) (cells : List ℕ) (s : Shown) : Type 0 where
+  pub answer : r ≡ s .verdict * 2 ^ 32 + s .missed
   pub shown : cells ≡ s .cells

@@ -9,7 +9,7 @@ ghost use lib.Dec.{leb};
 ghost use Rattle.frames.specs.Write.{Written};
 ghost use Rattle.player.specs.Player.{stepped, afterStep, started, afterStart};
 ghost use Rattle.planner.specs.Answer.{answerTo};
-ghost use Rattle.exports.specs.Packed.{listed, SearchedAs, packedAs, checkedAs, toldAs, ShownAs};
+ghost use Rattle.exports.specs.Packed.{listed, SearchedAs, packedAs, checkedAs, ToldAs};
 use checker::Verdict;
 use player::Player;
 use player::Shown;
@@ -98,10 +98,12 @@ pub extern "C" fn xiphomera_plan_text(text: &[u8], out: &mut [u8]) -> usize
     planner::plan_text(text, out)
 }
 
-// What a start or a step answers, as one number: verdict * 2^32 + missed.
-fn told(shown: Shown) -> u64
-    ensures { λ r. ⌜ r ≡ toldAs shown ⌝ }
+// Tells what a start or a step shows: verdict * 2^32 + missed, and the four cells.
+fn tell(shown: Shown, cells: &mut [u8; 4]) -> u64
+    ensures { λ r. ⌜ ToldAs r (now (cells .exit)) shown ⌝ }
 {
+    let four = shown.cells;
+    *cells = four;
     (shown.verdict as u64) * 4294967296 + shown.missed as u64
 }
 
@@ -120,20 +122,18 @@ pub extern "C" fn xiphomera_start<'a>(
     tick: u32,
     cells: &mut [u8; 4],
 ) -> u64
-    ensures { λ r. ⌜ ShownAs r (now (cells .exit)) (started cores (rows (listed n (now (offset .entry)) (now (work .entry)) (now (deadline .entry)) (now (period .entry)) (now (rates .entry)))) (now (table .entry)) tick) × (now (player .exit) ≡ afterStart cores (rows (listed n (now (offset .entry)) (now (work .entry)) (now (deadline .entry)) (now (period .entry)) (now (rates .entry)))) (now (table .entry)) tick (now (player .entry))) ⌝ }
+    ensures { λ r. ⌜ ToldAs r (now (cells .exit)) (started cores (rows (listed n (now (offset .entry)) (now (work .entry)) (now (deadline .entry)) (now (period .entry)) (now (rates .entry)))) (now (table .entry)) tick) × (now (player .exit) ≡ afterStart cores (rows (listed n (now (offset .entry)) (now (work .entry)) (now (deadline .entry)) (now (period .entry)) (now (rates .entry)))) (now (table .entry)) tick (now (player .entry))) ⌝ }
 {
     let list = list_of(n, offset, work, deadline, period, rates);
     let shown = player::start(player, list, cores, table, tick);
-    *cells = shown.cells;
-    told(shown)
+    tell(shown, cells)
 }
 
 // A step of the player's record where it stands: verdict * 2^32 + missed, and four cells, one a core.
 #[no_mangle]
 pub extern "C" fn xiphomera_step(player: &mut Player, tick: u32, cells: &mut [u8; 4]) -> u64
-    ensures { λ r. ⌜ ShownAs r (now (cells .exit)) (stepped (now (player .entry)) tick) × (now (player .exit) ≡ afterStep (now (player .entry)) tick) ⌝ }
+    ensures { λ r. ⌜ ToldAs r (now (cells .exit)) (stepped (now (player .entry)) tick) × (now (player .exit) ≡ afterStep (now (player .entry)) tick) ⌝ }
 {
     let shown = player::step(player, tick);
-    *cells = shown.cells;
-    told(shown)
+    tell(shown, cells)
 }
