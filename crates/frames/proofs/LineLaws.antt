@@ -14,9 +14,10 @@ use lib.ListN.{length, set, take, drop, length-take, length-drop, List·getD-eq-
 use lib.Seq.{slice, take-all, slice-empty, slice-cons, length-slice, getD-drop, getD-take, drop-drop}
 use Rattle.laws.specs.Lists.{nth}
 use Rattle.laws.proofs.SumLaws.{lt-or-ge}
+use Rattle.laws.proofs.ListLaws.{tab-set}
 use Rattle.frames.specs.Lines.{isDigit, digitOf, pairs, bytesOf, before, lines, lineAt, LineEnd}
 use Rattle.frames.specs.Read.{filled}
-use Rattle.frames.proofs.ListLaws.{tab-set, slice-is}
+use Rattle.frames.proofs.ListLaws.{slice-is}
 
 -- the first line of a text with no line feed before place n, and one there or its end
 first-line : (s : List ℕ) (n : ℕ) → 0 < length s → n ≤ length s → ((k : ℕ) → k < n → nth s k ≢ 10) → (n < length s → nth s n ≡ 10)

@@ -12,10 +12,11 @@ use lib.Dec.{leb, eqb}
 use lib.ListN.{length, drop, length-append, drop-of-length-le}
 use lib.Seq.{slice, length-slice}
 use Rattle.laws.specs.Lists.{nth, tab}
+use Rattle.tasks.specs.Task.{listOf}
 use Rattle.tasks.specs.Refusal.{unless}
 use Rattle.frames.specs.Frame.{lengthOfKind, sortOf}
 use Rattle.frames.specs.Lines.{pairs, bytesOf, lines, lineAt, LineEnd}
-use Rattle.frames.specs.Read.{State, said, start, refused, isKind, mayFollow, rightNumber, inPlace, taskOf, taken, lengthRefusal, frameRefusal, lineRefusal, placeRefusal, orRead, readLines, listOf, blankOf, heldBy, told, filled}
+use Rattle.frames.specs.Read.{State, said, start, refused, isKind, mayFollow, rightNumber, inPlace, taskOf, taken, lengthRefusal, frameRefusal, lineRefusal, placeRefusal, orRead, readLines, blankOf, heldBy, told, filled}
 use Rattle.frames.specs.declared.Problem.{Problem}
 use Rattle.frames.proofs.FrameLaws.{length-most}
 use Rattle.frames.proofs.LineLaws.{line-cut, bytes-length}

@@ -1,15 +1,14 @@
 -- The reader: a problem's text, line by line, and file refusals 20 to 24.
 -- Assumes nothing.
-use Prim.Native.Nat.{ℕ, zero, suc, _/_, _%_}
+use Prim.Native.Nat.{ℕ, zero, suc}
 use mathlib.Core.Bool.{Bool, true, false, cond, not, _&&_, _||_}
 use mathlib.Core.List.{List, [], _∷_, _++_}
 use lib.Dec.{leb, eqb}
-use lib.ListN.{length, getD}
+use lib.ListN.{length}
 use Rattle.laws.specs.Tests.{every, imp}
 use Rattle.laws.specs.Lists.{nth, tab}
 use Rattle.tasks.specs.declared.Task.{Task}
-use Rattle.tasks.specs.declared.TaskList.{TaskList}
-use Rattle.tasks.specs.Task.{noTask}
+use Rattle.tasks.specs.Task.{listOf}
 use Rattle.tasks.specs.Refusal.{unless}
 use Rattle.frames.specs.declared.Problem.{Problem}
 use Rattle.frames.specs.declared.Sort.{Sort}
@@ -123,17 +122,6 @@ readWithin most text = orRead (unless (leb (length text) most) 20 0) (readLines 
 -- a file of at most 1024 bytes
 abbrev pub readProblem : List ℕ → Read
 readProblem = readWithin 1024
-
--- a list of at most 16 tasks as numbers, 0 beyond its end
-unfoldable pub listOf : List Task → TaskList
-listOf ts = record {
-  n = length ts;
-  offset = tab 16 (λ k. getD ts k noTask .offset .0);
-  work = tab 16 (λ k. getD ts k noTask .work .0);
-  deadline = tab 16 (λ k. getD ts k noTask .deadline .0);
-  period = tab 16 (λ k. getD ts k noTask .period .0);
-  rates = tab 64 (λ k. nth (getD ts (k / 4) noTask .rates .0) (k % 4));
-}
 
 -- what holds before the first frame, beside a refusal, 0 for none
 unfoldable pub blankOf : ℕ → Problem

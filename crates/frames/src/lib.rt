@@ -7,13 +7,16 @@ ghost use lib.Seq.{sets, slice};
 ghost use Rattle.laws.specs.Lists.{nth};
 ghost use Rattle.frames.specs.Frame.{lengthOfKind, sortOf};
 ghost use Rattle.frames.specs.Lines.{isDigit, digitOf, pairs, bytesOf, lines, LineEnd, lineAt};
-ghost use Rattle.tasks.specs.declared.Task.{Task};
-ghost use Rattle.frames.specs.Read.{State, start, mayFollow, rightNumber, inPlace, taskOf, taken, lengthRefusal, frameRefusal, lineRefusal, readLines, readProblem, listOf, blankOf, heldBy, told, filled};
+ghost use Rattle.frames.specs.Read.{State, start, mayFollow, rightNumber, inPlace, taskOf, taken, lengthRefusal, frameRefusal, lineRefusal, readLines, readProblem, blankOf, heldBy, told, filled};
 ghost use Rattle.frames.specs.Write.{hexOf, digits, lineOf, verdictFrame, cellAt, slotFrame, slotLines, canWrite, writeAnswer, Written};
 use tasks::MAX_CORES;
 use tasks::MAX_SLOTS;
 use tasks::MAX_TASKS;
+use tasks::Rates;
+use tasks::Slots;
+use tasks::Task;
 use tasks::TaskList;
+use tasks::Work;
 
 // The kinds of frames, and what stands for none before the first.
 const NO_FRAME: u8 = 0;
@@ -396,23 +399,17 @@ fn in_place(last: u8, n: u8, frame: [u8; 10]) -> bool
     right_number(n, frame[0], frame[1])
 }
 
-// A list and one more task, from its 02 and its 03.
-fn add_task(mut list: TaskList, last: [u8; 10], frame: [u8; 10]) -> TaskList
-    requires { ⌜ list .n < 16 ⌝ }
-    ensures { λ r. ⌜ ((ts : List Task) → list ≡ listOf ts → r ≡ listOf (ts ++ (taskOf last frame ∷ []))) ⌝ }
+// The task of an 02 and an 03.
+fn task_of(last: [u8; 10], frame: [u8; 10]) -> Task
+    ensures { λ r. ⌜ r ≡ taskOf last frame ⌝ }
 {
-    let i = list.n as usize;
-    list.offset[i] = two_bytes(last[2], last[3]);
-    list.work[i] = two_bytes(last[4], last[5]);
-    list.deadline[i] = two_bytes(last[6], last[7]);
-    list.period[i] = two_bytes(last[8], last[9]);
-    let k = i * 4;
-    list.rates[k] = frame[2];
-    list.rates[k + 1] = frame[3];
-    list.rates[k + 2] = frame[4];
-    list.rates[k + 3] = frame[5];
-    list.n += 1;
-    list
+    Task {
+        offset: Slots(two_bytes(last[2], last[3])),
+        work: Work(two_bytes(last[4], last[5])),
+        deadline: Slots(two_bytes(last[6], last[7])),
+        period: Slots(two_bytes(last[8], last[9])),
+        rates: Rates([frame[2], frame[3], frame[4], frame[5]]),
+    }
 }
 
 // What the frames so far have said, and what one more in its place says.
@@ -427,7 +424,7 @@ fn take_frame(mut p: Problem, last: [u8; 10], frame: [u8; 10]) -> Problem
         }
         RATES => {
             let list = p.list;
-            let more = add_task(list, last, frame);
+            let more = tasks::add_task(list, task_of(last, frame));
             p.list = more;
         }
         LIMIT => {

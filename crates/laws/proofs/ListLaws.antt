@@ -1,15 +1,15 @@
--- Laws of lists made from a rule, and of the first place at which a rule gives a number that is not 0.
+-- Laws of lists made from a rule, of the first place at which a rule gives a number that is not 0, and of stores.
 -- Assumes nothing.
 use Prim.Native.Nat.{ℕ, zero, suc, _+_, _-_, _≤_, _<_}
 use native.Mathlib.Omega.{arith}
 use native.Mathlib.Decide.{ℕ-discrete}
 use mathlib.Core.Path.{_≡_, refl, sym, ap, _∙_}
-use mathlib.Core.Logic.{_≢_, ⊎-elim}
-use mathlib.Core.List.{List, _∷_, _++_}
+use mathlib.Core.Logic.{_≢_, _⊎_, inl, inr, ⊎-elim}
+use mathlib.Core.List.{List, [], _∷_, _++_}
 use native.Mathlib.Numerals.{add-one}
-use native.Mathlib.Nat.{zero-add}
+use native.Mathlib.Nat.{add-zero, zero-add}
 use lib.ListN.{length, take, drop, getD, set, replicate, length-set, length-append, length-drop, List·getD-append}
-use lib.Seq.{getD-set-same, getD-set-other, getD-append-add, getD-drop, getD-take, length-take-le, ext-getD}
+use lib.Seq.{sets, getD-set-same, getD-set-other, getD-append-add, getD-drop, getD-take, length-take-le, ext-getD}
 use Rattle.laws.specs.Lists.{nth, tab, over, orLater, seek, firstOf, filled}
 use Rattle.laws.proofs.SumLaws.{gate-lt, gate-ge, lt-or-ge}
 
@@ -176,3 +176,45 @@ pub tab-replicate : (n x : ℕ) → tab n (λ _. x) ≡ replicate n x
 unfolding tab
 tab-replicate zero x = refl
 tab-replicate (suc n) x = ap (λ s. x ∷ s) (tab-replicate n x)
+
+-- ---- stores, and one more at the end
+-- a run of stores leaves what stands beside it
+pub sets-other : (vs l : List ℕ) (i k : ℕ) → (k < i) ⊎ (i + length vs ≤ k) → nth (sets l i vs) k ≡ nth l k
+sets-other [] l i k h = refl
+sets-other (v ∷ vs) l i k h =
+    sets-other vs (set l i v) (suc i) k (⊎-elim (λ a. inl (omega arith)) (λ a. inr (omega arith)) h)
+    ∙ getD-set-other l i k v 0 (λ e. ⊎-elim (λ a. omega arith) (λ a. omega arith) h)
+
+-- and puts its own
+pub sets-same : (vs l : List ℕ) (i j : ℕ) → j < length vs → i + length vs ≤ length l → nth (sets l i vs) (i + j) ≡ nth vs j
+sets-same [] l i j h fits = absurd (omega arith)
+sets-same (v ∷ vs) l i zero h fits =
+    ap (nth (sets (set l i v) (suc i) vs)) (add-zero i) ∙ sets-other vs (set l i v) (suc i) i (inl (omega arith)) ∙ getD-set-same l i v 0 (omega arith)
+sets-same (v ∷ vs) l i (suc j) h fits =
+    ap (nth (sets (set l i v) (suc i) vs)) (omega arith)
+    ∙ sets-same vs (set l i v) (suc i) j (omega arith) (omega (arith, length-set l i v))
+
+-- a list by its rule, changed at one place
+pub tab-set : (n i v : ℕ) (g h : ℕ → ℕ) → i < n → h i ≡ v → ((k : ℕ) → k ≢ i → h k ≡ g k) → set (tab n g) i v ≡ tab n h
+tab-set n i v g h l here else-where =
+    ext-getD 0 (set (tab n g) i v) (tab n h) (length-set (tab n g) i v ∙ tab-length n g ∙ sym (tab-length n h)) at
+  where
+    at : (k : ℕ) → k < length (set (tab n g) i v) → getD (set (tab n g) i v) k 0 ≡ getD (tab n h) k 0
+    at k m =
+        let k<n : k < n = omega (arith, length-set (tab n g) i v, tab-length n g) in
+        elim (ℕ-discrete k i) [
+          | yes e ↦ ap (nth (set (tab n g) i v)) e ∙ getD-set-same (tab n g) i v 0 (omega (arith, tab-length n g)) ∙ sym here ∙ ap h (sym e) ∙ sym (tab-at n h k 0 k<n)
+          | no x ↦ getD-set-other (tab n g) i k v 0 x ∙ tab-at n g k 0 k<n ∙ sym (else-where k x) ∙ sym (tab-at n h k 0 k<n)
+        ]
+
+-- one more at the end of a list
+module _ {A : Type 0} (d a : A) where
+  pub more-last : (s : List A) → getD (s ++ (a ∷ [])) (length s) d ≡ a
+  more-last [] = refl
+  more-last (x ∷ s) = more-last s
+
+  pub more-other : (s : List A) (k : ℕ) → k ≢ length s → getD (s ++ (a ∷ [])) k d ≡ getD s k d
+  more-other [] zero x = absurd (x refl)
+  more-other [] (suc k) x = refl
+  more-other (y ∷ s) zero x = refl
+  more-other (y ∷ s) (suc k) x = more-other s k (λ e. x (ap suc e))

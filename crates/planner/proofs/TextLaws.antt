@@ -19,12 +19,13 @@ use Rattle.tasks.specs.declared.Soundness.{Soundness}
 use Rattle.tasks.specs.declared.Soundness.the-variants.{Sound, Refused}
 use Rattle.tasks.specs.Task.{rows}
 use Rattle.tasks.specs.Refusal.{refusal, tableLength, soundnessOf, IsSound}
+use Rattle.tasks.proofs.NumberLaws.{rows-back}
 use Rattle.tasks.proofs.SoundLaws.{next-none, sound-list, soundness-sound, soundness-refused}
 use Rattle.rules.specs.Search.{Searched, toldUnless, searchRefusal, search}
 use Rattle.frames.specs.declared.Problem.{Problem}
 use Rattle.frames.specs.Read.{Read, refused, problem, readProblem, blankOf, told}
 use Rattle.frames.specs.Write.{slotLines, writeAnswer, canWrite, Written}
-use Rattle.frames.proofs.ProblemLaws.{rows-back, read-held, read-refused}
+use Rattle.frames.proofs.ProblemLaws.{read-held, read-refused}
 use Rattle.search.specs.declared.Answer.{Answer}
 use Rattle.search.specs.Board.{toldOf}
 use Rattle.planner.specs.declared.Size.{Size}

@@ -1,4 +1,5 @@
 pub mod WindowLaws
 pub mod SoundLaws
 pub mod AnswerLaws
+pub mod NumberLaws
 pub mod Calls

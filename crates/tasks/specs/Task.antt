@@ -1,8 +1,8 @@
 -- Tasks and task lists.
 -- Assumes nothing.
-use Prim.Native.Nat.{ℕ, _+_, _*_, pred}
+use Prim.Native.Nat.{ℕ, _+_, _*_, _/_, _%_, pred}
 use mathlib.Core.List.{List, [], _∷_}
-use lib.ListN.{getD}
+use lib.ListN.{length, getD, set}
 use Rattle.laws.specs.Lists.{nth, tab}
 use Rattle.tasks.specs.declared.Slots.{Slots}
 use Rattle.tasks.specs.declared.Work.{Work}
@@ -44,3 +44,25 @@ taskAt l k = record {
 -- the tasks of a list as numbers
 abbrev pub rows : TaskList → List Task
 rows l = tab (l .n) (taskAt l)
+
+-- a list of at most 16 tasks as numbers, 0 beyond its end
+unfoldable pub listOf : List Task → TaskList
+listOf ts = record {
+  n = length ts;
+  offset = tab 16 (λ k. getD ts k noTask .offset .0);
+  work = tab 16 (λ k. getD ts k noTask .work .0);
+  deadline = tab 16 (λ k. getD ts k noTask .deadline .0);
+  period = tab 16 (λ k. getD ts k noTask .period .0);
+  rates = tab 64 (λ k. nth (getD ts (k / 4) noTask .rates .0) (k % 4));
+}
+
+-- a list as numbers with one more task behind its last
+unfoldable pub added : TaskList → Task → TaskList
+added l τ = record {
+  n = l .n + 1;
+  offset = set (l .offset) (l .n) (τ .offset .0);
+  work = set (l .work) (l .n) (τ .work .0);
+  deadline = set (l .deadline) (l .n) (τ .deadline .0);
+  period = set (l .period) (l .n) (τ .period .0);
+  rates = set (set (set (set (l .rates) (l .n * 4) (rate τ 0)) (l .n * 4 + 1) (rate τ 1)) (l .n * 4 + 2) (rate τ 2)) (l .n * 4 + 3) (rate τ 3);
+}

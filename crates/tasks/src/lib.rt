@@ -1,7 +1,7 @@
 // Tasks: their numbers and ranges, refusals 1 to 8, the length of the table, and the windows.
 ghost use mathlib.Core.Path.{_≡_};
 ghost use Prim.Native.Nat.{_≤_, _<_, _/_};
-ghost use Rattle.tasks.specs.Task.{taskAt, rows, workIn};
+ghost use Rattle.tasks.specs.Task.{taskAt, rows, added, workIn};
 ghost use Rattle.tasks.specs.Refusal.{within as withinOf, ratesFit, taskRefusal, listRefusal, Periods, lengthOf, soundnessOf};
 ghost use Rattle.tasks.specs.Window.{place as placeOf, isOpen, jobAt, windowAt, lastSlot, Cyclic};
 
@@ -92,6 +92,26 @@ pub fn task_at(list: TaskList, i: usize) -> Task
             list.rates[k + 3],
         ]),
     }
+}
+
+// A list and one more task behind its last.
+pub fn add_task(mut list: TaskList, t: Task) -> TaskList
+    requires { ⌜ list .n < 16 ⌝ }
+    ensures { λ r. ⌜ r ≡ added list t ⌝ }
+{
+    let i = list.n as usize;
+    list.offset[i] = t.offset.0;
+    list.work[i] = t.work.0;
+    list.deadline[i] = t.deadline.0;
+    list.period[i] = t.period.0;
+    let row = t.rates.0;
+    let k = i * 4;
+    list.rates[k] = row[0];
+    list.rates[k + 1] = row[1];
+    list.rates[k + 2] = row[2];
+    list.rates[k + 3] = row[3];
+    list.n += 1;
+    list
 }
 
 // Whether a number is in a range.

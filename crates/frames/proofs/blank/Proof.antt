@@ -2,7 +2,8 @@
 -- Assumes nothing.
 use mathlib.Core.Path.{refl}
 use Rattle.laws.specs.Lists.{tab}
-use Rattle.frames.specs.Read.{listOf, blankOf}
+use Rattle.tasks.specs.Task.{listOf}
+use Rattle.frames.specs.Read.{blankOf}
 use Rattle.frames.proofs.blank.Statement.{statement}
 use Rattle.frames.proofs.blank.Tie as tie
 

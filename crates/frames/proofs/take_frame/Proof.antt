@@ -1,6 +1,5 @@
 -- `frames::take_frame` meets its contract: kind by kind what the definition says.
 -- Assumes nothing.
-use mathlib.Core.Path.{ap}
 use borrow.Author.Needs.{needs}
 use Rattle.frames.specs.Read.{told}
 use Rattle.frames.proofs.TaskLaws.{cores-said, task-said, limit-said, nothing-said}
@@ -13,8 +12,11 @@ array-read-kind c = search needs
 array-read-p : tie.Need-array-read-p
 array-read-p c = search needs
 
+task-of-requires : tie.Need-task-of-requires
+task-of-requires c κs = search needs
+
 add-task-requires : tie.Need-add-task-requires
-add-task-requires c κs = c .before .before .pre (c .before .match .keys2)
+add-task-requires c κs = c .before .before .before .pre (c .before .before .match .keys2)
 
 array-read-p-2 : tie.Need-array-read-p-2
 array-read-p-2 c = search needs
@@ -39,7 +41,9 @@ returns c = λ s e q f g. cores-said s _ _ f e g (c .match .keys1)
 
 returns-2 : tie.Need-returns-2
 unfolding told
-returns-2 c = λ s e q f g. task-said s _ _ f e g _ _ (c .before .before .match .keys2) q (c .add-task .ensures (s .tasks) (ap (λ p. p .list) e))
+returns-2 c =
+    let k = c .before .before .before in
+    λ s e q f g. task-said s _ _ f e g _ _ _ (k .match .keys2) q (k .before .pre (k .match .keys2)) (c .before .task-of .ensures) (c .add-task .ensures)
 
 returns-3 : tie.Need-returns-3
 returns-3 c = λ s e q f g. limit-said s _ _ f e g _ (c .before .match .keys3) (c .four-bytes .ensures)
@@ -53,6 +57,7 @@ take-frame-spec =
     (tie.spec
     array-read-kind
     array-read-p
+    task-of-requires
     add-task-requires
     array-read-p-2
     array-read-four-bytes
