@@ -1,3 +1,5 @@
 pub mod Cases
 pub mod TextLaws
+pub mod LentLaws
+pub mod ScanCall
 pub mod Calls
