@@ -29,7 +29,7 @@ abbrev pub lentIf : ℕ → TaskList → Lent
 lentIf zero l = record { refusal = 0; list = l }
 lentIf (suc r) l = refusedBy (suc r)
 
--- what the scan answers: the refusal, and the list as numbers
+-- what the scan answers: the refusal, or the list as numbers, whose tasks are the lent ones
 pub record Scanned (m : ℕ) (ts : List Task) (r : Lent) : Type 0 where
   pub answer : r ≡ lentIf (scanRefusal m ts) (listOf ts)
   pub tasks : r .refusal ≡ 0 → rows (r .list) ≡ ts
