@@ -17,12 +17,13 @@ use Rattle.tasks.specs.declared.Soundness.{Soundness}
 use Rattle.tasks.specs.declared.Soundness.the-variants.{Sound, Refused}
 use Rattle.tasks.specs.declared.Window.{Window}
 use Rattle.tasks.specs.declared.Window.the-variants.{Open, Closed}
-use Rattle.tasks.specs.Task.{workIn, taskAt, rows}
+use Rattle.tasks.specs.Task.{workIn, taskAt, rows, added}
 use Rattle.tasks.specs.Refusal.{taskRefusal, tableLength, refusal, IsSound, soundnessOf}
 use Rattle.tasks.specs.Window.{place, jobAt, IsOpen, isOpen, windowAt, lastSlot}
 use Rattle.tasks.proofs.AnswerLaws.{sound-answer, refused-answer, window-open, window-closed}
 use Rattle.tasks.proofs.work_in as work-in
 use Rattle.tasks.proofs.task_at as task-at
+use Rattle.tasks.proofs.add_task as add-task
 use Rattle.tasks.proofs.task_refusal as task-refusal
 use Rattle.tasks.proofs.test_list as test-list
 use Rattle.tasks.proofs.is_open as is-open
@@ -49,6 +50,16 @@ task-at-says κs list i list′ i′ r M 𝓤 H A mem run = refl
 
 pub task-at-only : (list : TaskList) (i : ℕ) (r r′ : Task) → TaskAt list i r → TaskAt list i r′ → r ≡ r′
 task-at-only list i r r′ = only
+
+-- ---- add_task
+abbrev pub AddTask : TaskList → Task → TaskList → Type 0
+AddTask list t r = r ≡ added list t
+
+add-task-says : (κs list t list′ t′ r : _) → Says (λ M 𝓤 H A mem run. add-task.ensures-1 𝓤 H κs A mem run list t list′ t′ r) (AddTask list t r)
+add-task-says κs list t list′ t′ r M 𝓤 H A mem run = refl
+
+pub add-task-only : (list : TaskList) (t : Task) (r r′ : TaskList) → AddTask list t r → AddTask list t r′ → r ≡ r′
+add-task-only list t r r′ = only
 
 -- ---- task_refusal
 abbrev pub TaskRefusal : Task → ℕ → ℕ → Type 0
