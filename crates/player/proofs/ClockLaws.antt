@@ -33,10 +33,10 @@ elapsed-is : (s e : ℕ) → e < 2 ^ 32 → elapsedOf (tickAfter (s % 2 ^ 32) e)
 elapsed-is s e h = omega arith
 
 -- ticks of 32 bits are told by the elapsed numbers
-pub tick-after : (tick : ℕ → ℕ) → ((s : ℕ) → tick s < 2 ^ 32) → (s : ℕ) → tick s ≡ tickAfter (tick 0) (timeAfter tick s)
+pub tick-after : (tick : ℕ → ℕ) (n : ℕ) → ((s : ℕ) → s ≤ n → tick s < 2 ^ 32) → (s : ℕ) → s ≤ n → tick s ≡ tickAfter (tick 0) (timeAfter tick s)
 unfolding sum
-tick-after tick l zero = omega (arith, l 0)
-tick-after tick l (suc s) = omega (arith, tick-after tick l s, l s, l (suc s))
+tick-after tick n l zero h = omega (arith, l 0 h)
+tick-after tick n l (suc s) h = omega (arith, tick-after tick n l s (omega arith), l s (omega arith), l (suc s) h)
 
 -- ---- the clock
 -- a record moved on by s slots: position modulo H, age not past 1024, last modulo 2^32

@@ -3,7 +3,7 @@
 -- Assumes nothing.
 use Prim.Native.Nat.{ℕ, zero, suc, _+_, _*_, _-_, _%_, _^_, _≤_, _<_, min}
 use mathlib.Core.Path.{_≡_, refl, sym, ap, ap₂, _∙_}
-use mathlib.Core.Logic.{_≢_}
+use mathlib.Core.Logic.{_≢_, _↔_, ⊎-elim}
 use mathlib.Core.List.{List}
 use native.Mathlib.Omega.{arith}
 use native.Mathlib.Nat.{zero-add}
@@ -21,14 +21,14 @@ use Rattle.tasks.specs.Window.{InWindow}
 use Rattle.tasks.specs.Instance.{instanceOf}
 use Rattle.tasks.proofs.SoundLaws.{SoundList, sound-list}
 use Rattle.table.specs.Table.{cells, Valid}
-use Rattle.table.specs.Fault.{noFault, checked, check}
+use Rattle.table.specs.Fault.{noFault, inCell, inJob, Checked, refused, checked, check}
 use Rattle.checker.specs.declared.Verdict.the-variants.{Valid as IsValid}
 use Rattle.checker.specs.Checks.{toldOf}
 use Rattle.checker.proofs.Calls.{CheckTable}
 use Rattle.checker.proofs.Demand2.{tells}
 use Rattle.player.specs.declared.Player.{Player}
 use Rattle.player.specs.declared.Shown.{Shown}
-use Rattle.player.specs.Player.{cellsOf, stepRefusal, advanced, stepped, afterStep, numbers, startRefusal, recordOf, started, afterStart}
+use Rattle.player.specs.Player.{cellsOf, stepRefusal, advanced, stepped, afterStep, numbers, checkRefusal, startRefusal, recordOf, firstShown, started, afterStart}
 use Rattle.player.specs.Played.{shownAs, shownAt, unitsIn, elapsedAt, timeAfter}
 use Rattle.player.proofs.StepLaws.{Unspoilt}
 use Rattle.player.proofs.PlayLaws.{plays-work, plays-open, plays-rated, plays-once}
@@ -39,7 +39,7 @@ use Rattle.player.proofs.Calls.{Start, Step}
 -- a run: a call of `start` over the record p at the first tick, and n calls of `step`, each at the next tick on the record that the call before it left
 pub record Run (list : TaskList) (m : ℕ) (t : List ℕ) (p : Player) (tick : ℕ → ℕ) (n : ℕ) (shown : ℕ → Shown) (left : ℕ → Player) : Type 0 where
   -- a tick has 32 bits
-  pub ticks : (s : ℕ) → tick s < 2 ^ 32
+  pub ticks : (s : ℕ) → s ≤ n → tick s < 2 ^ 32
   pub starts : Start p list m t (tick 0) (shown 0) (left 0)
   pub steps : (s : ℕ) → s < n → Step (left s) (tick (suc s)) (shown (suc s)) (left (suc s))
 
@@ -105,11 +105,11 @@ module _ (list : TaskList) (m : ℕ) (t : List ℕ) (p : Player) (tick : ℕ →
   taken : startRefusal m ts t ≡ 0
   taken = rw faultless
 
-  -- so the start makes its record
   made-now : moved made 0 ≡ made
   unfolding recordOf
-  made-now = moved-none made unspoilt (run .ticks 0)
+  made-now = moved-none made unspoilt (run .ticks 0 (omega arith))
 
+  -- so the start makes its record
   start-made : left 0 ≡ made
   unfolding afterStart
   start-made = run .starts .1 ∙ rw taken
@@ -125,21 +125,21 @@ module _ (list : TaskList) (m : ℕ) (t : List ℕ) (p : Player) (tick : ℕ →
   cells-at = made-cells sl t (tick 0) (met .2 .known)
 
   -- the tick of a step
-  next-tick : (s : ℕ) → tick (suc s) ≡ tickAfter (moved made (timeAfter tick s) .last) (elapsedAt tick s)
+  next-tick : (s : ℕ) → s < n → tick (suc s) ≡ tickAfter (moved made (timeAfter tick s) .last) (elapsedAt tick s)
   unfolding recordOf sum
-  next-tick s = tick-after tick (run .ticks) (suc s) ∙ omega arith
+  next-tick s l = tick-after tick n (run .ticks) (suc s) l ∙ omega arith
 
   module _ (in-time : (s : ℕ) → s < n → elapsedAt tick s < 2 ^ 31) where
     -- each step moves the record on
     left-at : (s : ℕ) → s ≤ n → left s ≡ moved made (timeAfter tick s)
     unfolding sum
     left-at zero l = start-made ∙ sym made-now
-    left-at (suc s) l = run .steps s l .1 ∙ ap₂ afterStep (left-at s (omega arith)) (next-tick s) ∙ moved-step made unspoilt (timeAfter tick s) (elapsedAt tick s) (in-time s l)
+    left-at (suc s) l = run .steps s l .1 ∙ ap₂ afterStep (left-at s (omega arith)) (next-tick s l) ∙ moved-step made unspoilt (timeAfter tick s) (elapsedAt tick s) (in-time s l)
 
     -- and answers for its time
     shown-at : (s : ℕ) → s < n → shown (suc s) ≡ record { verdict = 0; cells = cellsOf (moved made (timeAfter tick (suc s))); missed = elapsedAt tick s - 1 }
     unfolding sum
-    shown-at s l = run .steps s l .0 ∙ ap₂ stepped (left-at s (omega arith)) (next-tick s) ∙ moved-answer made unspoilt (timeAfter tick s) (elapsedAt tick s) (in-time s l)
+    shown-at s l = run .steps s l .0 ∙ ap₂ stepped (left-at s (omega arith)) (next-tick s l) ∙ moved-answer made unspoilt (timeAfter tick s) (elapsedAt tick s) (in-time s l)
 
     accepted : (s : ℕ) → s ≤ n → shown s .verdict ≡ 0
     accepted zero l = ap (λ a. a .verdict) start-shown
@@ -200,6 +200,33 @@ module _ (list : TaskList) (m : ℕ) (t : List ℕ) (p : Player) (tick : ℕ →
 -- the board's counter, from any tick on and across its wrap: every elapsed number is 1
 pub counts : (τ s : ℕ) → elapsedAt (tickAfter τ) s ≡ 1
 counts τ s = omega arith
+
+-- ---- acceptance
+-- if no refusal is 0, then 0 is that there is no fault
+none-wrong : (x : Checked) → ((r : ℕ) → x ≡ refused r → r ≢ 0) → checkRefusal x ≡ 0 → x ≡ checked noFault
+none-wrong (refused r) some e = absurd (some r refl e)
+none-wrong (checked noFault) some e = refl
+none-wrong (checked (inCell s j kind)) some e = absurd (omega arith)
+none-wrong (checked (inJob i k kind)) some e = absurd (omega arith)
+
+-- and no refusal of the checker is 0
+some-refused : (m : ℕ) (ts : List Task) (t : List ℕ) (r : ℕ) → check m ts t ≡ refused r → r ≢ 0
+some-refused m ts t r e = ⊎-elim (λ x. x .1) (λ x z. omega (arith, x .0, z)) (tells m ts t .refuses-exact r .0 e)
+
+-- a start's verdict is its refusal
+first-verdict : (p : Player) (r : ℕ) → firstShown p r .verdict ≡ r
+first-verdict p zero = refl
+first-verdict p (suc r) = refl
+
+start-verdict : (list : TaskList) (m : ℕ) (t : List ℕ) (p q : Player) (τ : ℕ) (r : Shown) → Start p list m t τ r q → r .verdict ≡ startRefusal m (rows list) t
+unfolding started
+start-verdict list m t p q τ r e = ap (λ a. a .verdict) (e .0) ∙ first-verdict _ _
+
+-- so a start is accepted exactly if the checker finds the table valid
+pub accepts : (list : TaskList) (m : ℕ) (t : List ℕ) (p q : Player) (τ : ℕ) (r : Shown) → Start p list m t τ r q → (r .verdict ≡ 0) ↔ CheckTable list m t IsValid
+unfolding toldOf
+accepts list m t p q τ r e = let v = start-verdict list m t p q τ r e in
+    (λ z. sym (none-wrong (check m (rows list) t) (some-refused m (rows list) t) (sym v ∙ z)), λ x. v ∙ ap checkRefusal (sym x))
 
 -- ---- 01's example
 -- H = 12, and slot 3 at tick 4294967295: at the next tick, 0, it is slot 4 and not 0
