@@ -17,12 +17,11 @@ use Rattle.tasks.specs.declared.Task.{Task}
 use Rattle.tasks.specs.declared.TaskList.{TaskList}
 use Rattle.tasks.specs.declared.Work.{Work}
 use Rattle.tasks.specs.Task.{workIn, rate, task, taskAt, rows}
-use Rattle.tasks.specs.Refusal.{unless}
 use Rattle.tasks.specs.Window.{isOpen, jobAt}
 use Rattle.tasks.specs.Instance.{Instance, instanceOf, Regular}
 use Rattle.tasks.proofs.SoundLaws.{rows-length, rows-task, InRange, SoundList, sound-list, length-whole, instance-regular}
 use Rattle.table.specs.Table.{cells, slotOf, coreOf, free}
-use Rattle.table.specs.Fault.{cellKind}
+use Rattle.table.specs.Fault.{knownKind, cellKind}
 use Rattle.checker.specs.declared.Effect.the-variants.{Nothing, Does, Faulty}
 use Rattle.checker.specs.Checks.{instanceFor, Ready, At, freeIn, counterAt, effectOf}
 use Rattle.checker.proofs.FaultLaws.{after, kind-unknown, kind-known}
@@ -179,13 +178,13 @@ module _ {list : TaskList} {m h : ℕ} {t : List ℕ} {slot core : ℕ} (at : At
       rate-is = λ i. rate (task-is i) (sym core-of i)
 
       module _ {o b : Bool} {k : ℕ} (eo : o ≡ isOpen h (τ .offset .0) (τ .deadline .0) (τ .period .0) slot) (eb : b ≡ freeIn t (slot * m) core (nth t c))
-          (ek : k ≡ unless o 2 (unless (ltb 0 (rate τ core)) 3 (unless b 4 0))) where
+          (ek : k ≡ knownKind o (ltb 0 (rate τ core)) b) where
         -- its tests are those of the cell
         kind-is : k ≡ cellKind P (nth t) c
         unfolding instanceOf
         kind-is =
             ek
-            ∙ (λ i. unless ((eo ∙ opens-is) i) 2 (unless (ltb 0 (rate-is i)) 3 (unless ((eb ∙ free-of (nth t c)) i) 4 0)))
+            ∙ (λ i. knownKind ((eo ∙ opens-is) i) (ltb 0 (rate-is i)) ((eb ∙ free-of (nth t c)) i))
             ∙ sym (kind-known P (nth t) c x (rw rows-length l))
 
         -- one of them fails

@@ -16,7 +16,7 @@ use Rattle.tasks.specs.Refusal.{unless}
 use Rattle.tasks.specs.Instance.{Instance}
 use Rattle.tasks.proofs.AnswerLaws.{unless-yes, unless-no}
 use Rattle.table.specs.Table.{cells, slotOf, coreOf, beside, done, free, Valid}
-use Rattle.table.specs.Fault.{kindOf, cellKind, workKind, jobKind, Fault, noFault, inCell, inJob, firstJob, jobFault, fault}
+use Rattle.table.specs.Fault.{knownKind, kindOf, cellKind, workKind, jobKind, Fault, noFault, inCell, inJob, firstJob, jobFault, fault}
 use Rattle.checker.specs.Faulty.{Fine, Wrong, unknown, closed, unrated, twice, Exact, WrongWork, too-little, too-much, FirstCell, FirstJob}
 use Rattle.table.proofs.TableLaws.{beside-before, beside-slot, free-apart}
 
@@ -69,7 +69,7 @@ module _ (P : Instance) (f : ℕ → ℕ) where
 
     module _ (known : f c ≤ P .tasks) where
       -- it is known
-      pub kind-known : cellKind P f c ≡ unless (P .opens (f c) (slotOf P c)) 2 (unless (ltb 0 (P .rate (f c) (coreOf P c))) 3 (unless (free P c f (f c)) 4 0))
+      pub kind-known : cellKind P f c ≡ knownKind (P .opens (f c) (slotOf P c)) (ltb 0 (P .rate (f c) (coreOf P c))) (free P c f (f c))
       unfolding kindOf
       kind-known = task-kind ∙ unless-yes _ 1 _ (le→leb _ _ known)
 

@@ -4,8 +4,8 @@ ghost use Prim.Native.Nat.{_+_, _*_, _≤_, _<_};
 ghost use lib.ListN.{length};
 ghost use Rattle.laws.specs.Lists.{nth, seek};
 ghost use Rattle.tasks.specs.Task.{rows};
-ghost use Rattle.tasks.specs.Refusal.{unless, Periods};
-ghost use Rattle.table.specs.Fault.{workKind, check, checked};
+ghost use Rattle.tasks.specs.Refusal.{Periods};
+ghost use Rattle.table.specs.Fault.{knownKind, workKind, check, checked};
 ghost use Rattle.checker.specs.Checks.{toldOf, instanceFor, Ready, At, freeIn, counterAt, effectOf, Counted, Scanned, countedKind, jobFaultIn};
 use tasks::MAX_TASKS;
 use tasks::Slots;
@@ -65,7 +65,7 @@ enum Effect {
 
 // The kind of fault of a task of the list in a cell, by 01's tests in their order; 0 if it passes them.
 fn kind(opens: bool, rated: bool, free: bool) -> u8
-    ensures { λ r. ⌜ r ≡ unless opens 2 (unless rated 3 (unless free 4 0)) ⌝ }
+    ensures { λ r. ⌜ r ≡ knownKind opens rated free ⌝ }
 {
     if !opens {
         return TASK_CLOSED;

@@ -11,13 +11,13 @@ use Rattle.tasks.specs.Refusal.{unless, orNext, refusal, tableLength}
 use Rattle.tasks.specs.Instance.{Instance, instanceOf}
 use Rattle.table.specs.Table.{cells, slotOf, coreOf, done, free}
 
--- the fault of a task v in cell c: 1 unknown task number, 2 task closed, 3 rate 0, 4 already in this slot; 0 none
+-- the fault of a task of the list, by its tests in a cell: 2 task closed, 3 rate 0, 4 already in this slot; 0 none
+abbrev pub knownKind : Bool → Bool → Bool → ℕ
+knownKind opens rated free = unless opens 2 (unless rated 3 (unless free 4 0))
+
+-- the fault of a task v in cell c: 1 unknown task number, else that of a task of the list
 unfoldable pub kindOf : Instance → ℕ → (ℕ → ℕ) → ℕ → ℕ
-kindOf P c f v =
-    unless (leb v (P .tasks)) 1
-    (unless (P .opens v (slotOf P c)) 2
-    (unless (ltb 0 (P .rate v (coreOf P c))) 3
-    (unless (free P c f v) 4 0)))
+kindOf P c f v = unless (leb v (P .tasks)) 1 (knownKind (P .opens v (slotOf P c)) (ltb 0 (P .rate v (coreOf P c))) (free P c f v))
 
 -- the fault of cell c; an idle cell has none
 unfoldable pub cellKind : Instance → (ℕ → ℕ) → ℕ → ℕ
