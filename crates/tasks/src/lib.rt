@@ -258,12 +258,13 @@ pub fn job_at(len: Slots, t: Task, slot: Slots) -> u16
     p.0 / t.period.0
 }
 
-// Whether a task is open in a slot, and for which job.
+// Open for a job, or closed.
 pub enum Window {
     Open(u16),
     Closed,
 }
 
+// Whether a task is open in a slot, and for which job.
 pub fn open_in(len: Slots, t: Task, slot: Slots) -> Window
     requires { ⌜ (0 < len .0) × (len .0 ≤ 1024) × (slot .0 < len .0) × (0 < t .period .0) ⌝ }
     ensures { λ r. ⌜ r ≡ windowAt (len .0) t (slot .0) ⌝ }
