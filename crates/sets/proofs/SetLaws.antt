@@ -52,7 +52,7 @@ digit-below a j k r h = subst (λ (n : ℕ). digit (a * 2 ^ n + r) k ≡ digit r
         ∙ ap (λ (q : ℕ). q % 2) (add-mul-div-right r (a * 2 ^ suc i) (pow-pos k) ∙ add-comm (r / 2 ^ k) (a * 2 ^ suc i))
         ∙ block-odd a i (r / 2 ^ k)
 
--- and so is whether two digits differ
+-- whether two digits differ is a digit
 differ-lt : (d e : ℕ) → d < 2 → e < 2 → differ d e < 2
 differ-lt zero e h l = l
 differ-lt (suc d) zero h l = h
@@ -94,23 +94,27 @@ each-task-alone : (v c : ℕ) → c ≢ 0 → c < 4 → digit eachTask (4 * v + 
 each-task-alone v c x l =
     ⊎-elim (λ h. each-task-digit v c h l ∙ omega arith) (λ h. digit-above eachTask 64 (4 * v + c) (lit< tt) (omega arith)) (lt-or-ge v 16)
 
+-- digit k of the set of a core, where the mask has b
+of-core-digit : (s core k b : ℕ) → digit eachTask k ≡ b → digit (ofCore s core) k ≡ min (digit (s / 2 ^ core) k) b
+unfolding ofCore
+of-core-digit s core k b e = and-digit (s / 2 ^ core) eachTask k ∙ ap (min (digit (s / 2 ^ core) k)) e
+
 -- the set of a core has the core's tasks
 pub of-core-has : (s core v : ℕ) → core < 4 → v < 16 → has (ofCore s core) v 0 ≡ has s v core
-unfolding has ofCore
+unfolding has
 of-core-has s core v l h =
+    let k : ℕ = 4 * v + 0 in
     ap (λ (d : ℕ). eqb d 1)
-    (and-digit (s / 2 ^ core) eachTask (4 * v + 0)
-    ∙ ap (λ (e : ℕ). min (digit (s / 2 ^ core) (4 * v + 0)) e) (each-task-digit v 0 h (lit< tt))
-    ∙ min-eq-left (le-of-suc-le-suc (digit-lt (s / 2 ^ core) (4 * v + 0)))
-    ∙ digit-shr s core (4 * v + 0)
+    (of-core-digit s core k 1 (each-task-digit v 0 h (lit< tt))
+    ∙ min-eq-left (le-of-suc-le-suc (digit-lt (s / 2 ^ core) k))
+    ∙ digit-shr s core k
     ∙ ap (digit s) (omega arith))
 
 -- and nothing on the other cores
 pub of-core-alone : (s core : ℕ) → Alone (ofCore s core)
-unfolding has ofCore
+unfolding has
 of-core-alone s core = record {
-  none = λ v c x l. ap (λ (d : ℕ). eqb d 1)
-      (and-digit (s / 2 ^ core) eachTask (4 * v + c) ∙ ap (λ (e : ℕ). min (digit (s / 2 ^ core) (4 * v + c)) e) (each-task-alone v c x l) ∙ min-zero _);
+  none = λ v c x l. ap (λ (d : ℕ). eqb d 1) (of-core-digit s core (4 * v + c) 0 (each-task-alone v c x l) ∙ min-zero _);
 }
 
 -- it has 64 digits
@@ -144,28 +148,24 @@ taken-out zero h = (refl, refl)
 taken-out (suc zero) h = (refl, refl)
 taken-out (suc (suc d)) h = absurd (not-suc-le-zero (le-of-suc-le-suc (le-of-suc-le-suc h)))
 
--- digit k of the sets without task w
-without-digit : (s w k : ℕ) → digit (without s w) k ≡ differ (digit s k) (min (digit s k) (digit (coresOf w) k))
+-- digit k of the sets without task w, where the mask has b
+without-digit : (s w k b : ℕ) → digit (coresOf w) k ≡ b → digit (without s w) k ≡ differ (digit s k) (min (digit s k) b)
 unfolding without
-without-digit s w k = xor-digit s (bitAnd s (coresOf w)) k ∙ ap (differ (digit s k)) (and-digit s (coresOf w) k)
+without-digit s w k b e = xor-digit s (bitAnd s (coresOf w)) k ∙ ap (differ (digit s k)) (and-digit s (coresOf w) k ∙ ap (min (digit s k)) e)
 
 -- task w is gone, and the others stay
 pub without-has : (s w v c : ℕ) → w < 16 → c < 4 → has (without s w) v c ≡ not (eqb v w) && has s v c
 unfolding has
-without-has s w v c h l = elim (ℕ-discrete v w) [
-  | yes e ↦
-      ap (λ (d : ℕ). eqb d 1)
-      (without-digit s w (4 * v + c)
-      ∙ ap (λ (b : ℕ). differ (digit s (4 * v + c)) (min (digit s (4 * v + c)) b)) (rw e (cores-own w c l))
-      ∙ taken-out (digit s (4 * v + c)) (digit-lt s (4 * v + c)) .0)
-      ∙ sym (ap (λ (b : Bool). not b && has s v c) (eq-eqb v w e))
-  | no x ↦
-      ap (λ (d : ℕ). eqb d 1)
-      (without-digit s w (4 * v + c)
-      ∙ ap (λ (b : ℕ). differ (digit s (4 * v + c)) (min (digit s (4 * v + c)) b)) (cores-other w v c l x)
-      ∙ taken-out (digit s (4 * v + c)) (digit-lt s (4 * v + c)) .1)
-      ∙ sym (ap (λ (b : Bool). not b && has s v c) (ne-eqb v w x))
-]
+without-has s w v c h l =
+    let k : ℕ = 4 * v + c in
+    elim (ℕ-discrete v w) [
+      | yes e ↦
+          ap (λ (d : ℕ). eqb d 1) (without-digit s w k 1 (rw e (cores-own w c l)) ∙ taken-out (digit s k) (digit-lt s k) .0)
+          ∙ sym (ap (λ (b : Bool). not b && has s v c) (eq-eqb v w e))
+      | no x ↦
+          ap (λ (d : ℕ). eqb d 1) (without-digit s w k 0 (cores-other w v c l x) ∙ taken-out (digit s k) (digit-lt s k) .1)
+          ∙ sym (ap (λ (b : Bool). not b && has s v c) (ne-eqb v w x))
+    ]
 
 -- a set of core 0, alone, stays one
 pub without-alone : (s w : ℕ) → w < 16 → Alone s → Alone (without s w)
@@ -180,10 +180,11 @@ without-lt s w h = xor-lt 64 s (bitAnd s (coresOf w)) h (lt-of-le-of-lt (and-le-
 
 -- ---- the lowest task
 
--- the lowest digit, and digit j of the rest
+-- the lowest digit
 digit-first : (n : ℕ) → digit n 0 ≡ n % 2
 digit-first n = ap (λ (q : ℕ). q % 2) (div-one n)
 
+-- and the others, which are those of the half
 digit-rest : (n j : ℕ) → digit n (suc j) ≡ digit (n / 2) j
 digit-rest n j = ap (digit n) (sym (one-add j)) ∙ sym (digit-shr n 1 j)
 
@@ -207,7 +208,7 @@ trailing-one (suc k) n h = above (n % 2) (trailing-one k (n / 2)) refl h
     above : (d : ℕ) → (trailingZeros k (n / 2) < k → digit (n / 2) (trailingZeros k (n / 2)) ≡ 1)
         → n % 2 ≡ d → under d (trailingZeros k (n / 2)) < suc k → digit n (under d (trailingZeros k (n / 2))) ≡ 1
     above zero rest e l = digit-rest n (trailingZeros k (n / 2)) ∙ rest (le-of-suc-le-suc l)
-    above (suc d) rest e l = digit-first n ∙ omega (arith, e, mod-lt n (zero-lt-suc 1))
+    above (suc d) rest e l = digit-first n ∙ omega arith
 
 -- and those below it are 0
 trailing-none : (k n j : ℕ) → j < trailingZeros k n → digit n j ≡ 0
@@ -223,17 +224,18 @@ trailing-none (suc k) n j h = at (n % 2) j (trailing-none k (n / 2)) refl h
 -- a digit of the set of core 0, alone, is that of a task
 digit-task : (s k : ℕ) → Alone s → digit s k ≡ 1 → has s (k / 4) 0 ≡ true
 unfolding has
-digit-task s k a e = elim (ℕ-discrete (k % 4) 0) [
-  | yes z ↦ ap (λ (j : ℕ). eqb (digit s j) 1) (omega arith) ∙ ap (λ (d : ℕ). eqb d 1) e
-  | no x ↦ absurd (true≢false (sym (ap (λ (j : ℕ). eqb (digit s j) 1) (omega arith) ∙ ap (λ (d : ℕ). eqb d 1) e) ∙ a .none (k / 4) (k % 4) x (mod-lt k (zero-lt-suc 3))))
-]
+digit-task s k a e =
+    let at : (c : ℕ) → 4 * (k / 4) + c ≡ k → has s (k / 4) c ≡ true = λ c p. ap (λ (d : ℕ). eqb d 1) (ap (digit s) p ∙ e) in
+    elim (ℕ-discrete (k % 4) 0) [
+      | yes z ↦ at 0 (omega arith)
+      | no x ↦ absurd (true≢false (sym (at (k % 4) (omega arith)) ∙ a .none (k / 4) (k % 4) x (mod-lt k (zero-lt-suc 3))))
+    ]
 
 -- the lowest task is in the set
 pub lowest-in : (s : ℕ) → s ≢ 0 → s < 2 ^ 64 → Alone s → (lowest s < 16) × (has s (lowest s) 0 ≡ true)
 unfolding lowest
 lowest-in s x h a =
-    let l = trailing-lt 64 s x h in
-    (omega arith, digit-task s (trailingZeros 64 s) a (trailing-one 64 s l))
+    let l = trailing-lt 64 s x h in (omega arith, digit-task s (trailingZeros 64 s) a (trailing-one 64 s l))
 
 -- and no lower task is
 pub lowest-first : (s w : ℕ) → Alone s → w < lowest s → has s w 0 ≡ false
