@@ -1,22 +1,22 @@
--- The arrays that the search fills are right for the list's instance, so the walk on them is the engine's walk under the limit.
+-- The arrays that the search fills are right for the list's instance.
 -- Assumes nothing.
-use Prim.Native.Nat.{ℕ, zero, suc, _+_, _*_, _-_, _/_, _%_, _≤_, _<_}
+use Prim.Native.Nat.{ℕ, zero, suc, _+_, _*_, _-_, _/_, _%_, _≤_, _<_, min}
 use native.Mathlib.Omega.{arith}
-use native.Mathlib.Nat.{div-le-self, zero-add, mul-le-mul}
+use native.Mathlib.Nat.{div-le-self, zero-add, min-le-right}
 use mathlib.Core.Path.{_≡_, refl, sym, ap, ap₂, subst, _∙_}
 use mathlib.Core.Logic.{_≢_}
 use mathlib.Core.Bool.{_&&_}
 use mathlib.Core.List.{List}
-use lib.Dec.{eqb}
+use lib.Dec.{leb, ltb, eqb}
 use borrow.Author.Tests.{lt-ltb}
-use lib.ListN.{length, take, drop, set, replicate, length-replicate, getD-replicate, length-set}
+use lib.ListN.{length, set, replicate, length-replicate, getD-replicate, length-set}
 use lib.Arith.{digits-div, digits-mod}
 use lib.Seq.{getD-set-same, getD-set-other}
 use Rattle.laws.specs.Sum.{gate, sum}
 use Rattle.laws.specs.Tests.{all}
-use Rattle.laws.specs.Lists.{nth, over, filled}
+use Rattle.laws.specs.Lists.{nth, filled}
 use Rattle.laws.proofs.TestLaws.{all-same}
-use Rattle.laws.proofs.ListLaws.{tab-take, tab-replicate, filled-length, filled-at, filled-before, filled-behind, filled-over}
+use Rattle.laws.proofs.ListLaws.{filled-length, filled-at, filled-before, filled-behind}
 use Rattle.tasks.specs.declared.Task.{Task}
 use Rattle.tasks.specs.declared.TaskList.{TaskList}
 use Rattle.tasks.specs.Task.{task, rate, taskAt, rows}
@@ -27,15 +27,12 @@ use Rattle.tasks.proofs.SoundLaws.{rows-length, rows-task, SoundList, sound-lis
 use Rattle.tasks.proofs.WindowLaws.{job-slot, highest-passes}
 use Rattle.table.specs.Table.{done}
 use Rattle.rules.specs.Rules.{evenRates, twin}
-use Rattle.rules.specs.Walk.{limited}
 use Rattle.rules.specs.Right.{ownInstance}
-use Rattle.rules.specs.Search.{walked, told}
-use Rattle.walk.specs.Machine.{State, tasksOn, coresOn, slotsOn, cellsOn, walkOn, Fits, Leaves, Ran}
+use Rattle.sets.specs.Sets.{has}
+use Rattle.walk.specs.Machine.{tasksOn, coresOn, slotsOn, Fits}
 use Rattle.walk.specs.Ready.{Small, counterOf, entryOf, isQuick, Ready, Lefts}
-use Rattle.walk.proofs.TurnLaws.{packed-nothing, packed-found, packed-stopped}
-use Rattle.walk.proofs.RefineLaws.{toldAt, Shows, shows-same, walk-limited}
-use Rattle.search.specs.declared.Answer.{Answer}
-use Rattle.search.specs.Board.{Fit, entryFor, gridEntry, evenPair, evenWith, rowEven, evenMark, coresTwin, twinMark, workAt, boardOf, walkTold, toldOf}
+use Rattle.search.specs.Board.{Fit, entryFor, gridEntry, evenPair, evenWith, rowEven, evenMark, coresTwin, twinMark, fitMark, workAt, boardOf}
+use Rattle.search.proofs.FitLaws.{mark-has, up-to-15}
 
 -- ---- the list's instance
 module _ {m : ℕ} (list : TaskList) (s : SoundList m (rows list)) where
@@ -67,7 +64,7 @@ module _ {m : ℕ} (list : TaskList) (s : SoundList m (rows list)) where
 -- ---- reading the board
 module _ (list : TaskList) (m e L : ℕ) (few : L ≤ 1024) where
   grid : List ℕ
-  grid = filled (replicate 16483 0) 0 (L * 16) (gridEntry list L)
+  grid = filled (replicate 16739 0) 0 (L * 16) (gridEntry list L)
 
   rated : List ℕ
   rated = filled grid 16384 64 (nth (list .rates))
@@ -79,44 +76,60 @@ module _ (list : TaskList) (m e L : ℕ) (few : L ≤ 1024) where
   twinned = filled evened 16464 16 (twinMark list e)
 
   board : List ℕ
-  board = boardOf list m e L (replicate 16483 0)
+  board = boardOf list m e L (replicate 16739 0)
 
-  grid-length : length grid ≡ 16483
+  grid-length : length grid ≡ 16739
   unfolding grid
-  grid-length = filled-length (replicate 16483 0) 0 (L * 16) (gridEntry list L) ∙ length-replicate {A = ℕ} 16483 0
+  grid-length = filled-length (replicate 16739 0) 0 (L * 16) (gridEntry list L) ∙ length-replicate {A = ℕ} 16739 0
 
-  rated-length : length rated ≡ 16483
+  rated-length : length rated ≡ 16739
   unfolding rated
   rated-length = filled-length grid 16384 64 (nth (list .rates)) ∙ grid-length
 
-  evened-length : length evened ≡ 16483
+  evened-length : length evened ≡ 16739
   unfolding evened
   evened-length = filled-length rated 16448 16 (evenMark list m e) ∙ rated-length
 
-  twinned-length : length twinned ≡ 16483
+  twinned-length : length twinned ≡ 16739
   unfolding twinned
   twinned-length = filled-length evened 16464 16 (twinMark list e) ∙ evened-length
 
+  sized : List ℕ
+  sized = set (set (set twinned 16480 (list .n)) 16481 m) 16482 L
+
+  sized-length : length sized ≡ 16739
+  unfolding sized
+  sized-length = rw (length-set, length-set, length-set, twinned-length)
+
+  -- below the marks of fitting rates
+  below-fits : (x : ℕ) → x < 16483 → nth board x ≡ nth sized x
+  unfolding board boardOf sized twinned evened rated grid
+  below-fits x l = filled-before sized 16483 256 (fitMark (list .rates)) x l
+
   -- below the three numbers
   below-sizes : (x : ℕ) → x < 16480 → nth board x ≡ nth twinned x
-  unfolding board boardOf twinned evened rated grid
+  unfolding sized
   below-sizes x l =
-      getD-set-other (set (set twinned 16480 (list .n)) 16481 m) 16482 x L 0 (omega arith)
+      below-fits x (omega arith)
+      ∙ getD-set-other (set (set twinned 16480 (list .n)) 16481 m) 16482 x L 0 (omega arith)
       ∙ getD-set-other (set twinned 16480 (list .n)) 16481 x m 0 (omega arith)
       ∙ getD-set-other twinned 16480 x (list .n) 0 (omega arith)
 
   at-slots : slotsOn board ≡ L
-  unfolding board boardOf twinned evened rated grid
-  at-slots = getD-set-same (set (set twinned 16480 (list .n)) 16481 m) 16482 L 0 (rw (length-set, length-set, twinned-length) (omega arith))
+  unfolding sized
+  at-slots = below-fits 16482 (omega arith)
+      ∙ getD-set-same (set (set twinned 16480 (list .n)) 16481 m) 16482 L 0 (rw (length-set, length-set, twinned-length) (omega arith))
 
   at-cores : coresOn board ≡ m
-  unfolding board boardOf twinned evened rated grid
-  at-cores = getD-set-other (set (set twinned 16480 (list .n)) 16481 m) 16482 16481 L 0 (omega arith)
+  unfolding sized
+  at-cores = below-fits 16481 (omega arith)
+      ∙ getD-set-other (set (set twinned 16480 (list .n)) 16481 m) 16482 16481 L 0 (omega arith)
       ∙ getD-set-same (set twinned 16480 (list .n)) 16481 m 0 (rw (length-set, twinned-length) (omega arith))
 
   at-tasks : tasksOn board ≡ list .n
-  unfolding board boardOf twinned evened rated grid
-  at-tasks = getD-set-other (set (set twinned 16480 (list .n)) 16481 m) 16482 16480 L 0 (omega arith)
+  unfolding sized
+  at-tasks = below-fits 16480 (omega arith)
+      ∙ getD-set-other (set (set twinned 16480 (list .n)) 16481 m) 16482 16480 L 0 (omega arith)
       ∙ getD-set-other (set twinned 16480 (list .n)) 16481 16480 m 0 (omega arith)
       ∙ getD-set-same twinned 16480 (list .n) 0 (rw twinned-length (omega arith))
 
@@ -127,7 +140,7 @@ module _ (list : TaskList) (m e L : ℕ) (few : L ≤ 1024) where
       ∙ filled-before rated 16448 16 (evenMark list m e) x (omega arith)
       ∙ filled-before grid 16384 64 (nth (list .rates)) x (omega arith)
       ∙ ap (nth grid) (omega arith)
-      ∙ filled-at (replicate 16483 0) 0 (L * 16) (gridEntry list L) x l (rw (length-replicate {A = ℕ} 16483 0) (omega arith))
+      ∙ filled-at (replicate 16739 0) 0 (L * 16) (gridEntry list L) x l (rw (length-replicate {A = ℕ} 16739 0) (omega arith))
 
   at-rates : (x : ℕ) → x < 64 → nth board (16384 + x) ≡ nth (list .rates) x
   unfolding twinned evened rated
@@ -145,6 +158,10 @@ module _ (list : TaskList) (m e L : ℕ) (few : L ≤ 1024) where
   at-twins : (x : ℕ) → x < 16 → nth board (16464 + x) ≡ twinMark list e x
   unfolding twinned
   at-twins x l = below-sizes (16464 + x) (omega arith) ∙ filled-at evened 16464 16 (twinMark list e) x l (rw evened-length (omega arith))
+
+  at-fits : (x : ℕ) → x < 256 → nth board (16483 + x) ≡ fitMark (list .rates) x
+  unfolding board boardOf sized twinned evened rated grid
+  at-fits x l = filled-at sized 16483 256 (fitMark (list .rates)) x l (rw sized-length (omega arith))
 
 -- ---- the list's rates
 -- the rate on a core, in the flat list
@@ -189,7 +206,7 @@ module _ {m : ℕ} (list : TaskList) (s : SoundList m (rows list)) (e : ℕ) whe
       ap₂ eqb (sym (ap (λ τ. rate τ a) (k .1) ∙ row-at list v a la)) (sym (ap (λ τ. rate τ b) (k .1) ∙ row-at list v b lb))))
 
   -- the board is ready for the instance
-  pub board-ready : Ready (ownInstance m (rows list)) e (boardOf list m e (tableLength (rows list)) (replicate 16483 0))
+  pub board-ready : Ready (ownInstance m (rows list)) e (boardOf list m e (tableLength (rows list)) (replicate 16739 0))
   unfolding board instanceOf evenMark
   board-ready = record {
     slots = at-slots list m e (tableLength (rows list)) (s .few-slots);
@@ -202,6 +219,13 @@ module _ {m : ℕ} (list : TaskList) (s : SoundList m (rows list)) (e : ℕ) whe
     rates = λ v j lv lj. let k = is-task v lv in
         at-rates list m e (tableLength (rows list)) (s .few-slots) (v * 4 + j) (omega (arith, rows-length list, s .few-tasks, s .few-cores))
         ∙ sym (ap (λ τ. rate τ j) (k .1) ∙ row-at list v j (omega (arith, s .few-cores)));
+    fits = λ v j w lv lj. let k = is-task v lv in
+        let cap : min w 15 < 16 = omega (arith, min-le-right w 15) in
+        ap (λ x. has (x % 16) 0 j) (at-fits list m e (tableLength (rows list)) (s .few-slots) (v * 16 + min w 15) (omega (arith, rows-length list, s .few-tasks)))
+        ∙ mark-has (list .rates) v (min w 15) j cap (omega (arith, s .few-cores))
+        ∙ ap (λ r. ltb 0 r && leb r (min w 15)) (sym (ap (λ τ. rate τ j) (k .1) ∙ row-at list v j (omega (arith, s .few-cores))))
+        ∙ ap (λ b. ltb 0 (rate (task (rows list) (suc v)) j) && b)
+        (up-to-15 (rate (task (rows list) (suc v)) j) w (s .in-range (suc v) (omega arith) lv .rate-le j (omega (arith, s .few-cores))));
     evens = λ v lv. let k = is-task v lv in
         at-even list m e (tableLength (rows list)) (s .few-slots) v (omega (arith, rows-length list, s .few-tasks))
         ∙ ap (λ x. gate (isQuick e && x) 1) (ap (λ τ. rowEven (τ .rates .0) m) (sym (k .1)) ∙ even-same (tableLength (rows list)) m (rows list) (suc v));
@@ -211,13 +235,12 @@ module _ {m : ℕ} (list : TaskList) (s : SoundList m (rows list)) (e : ℕ) whe
   }
 
   -- and the walk stands at its start
-  start-fits : Fits (boardOf list m e (tableLength (rows list)) (replicate 16483 0)) 0 0
+  start-fits : Fits (boardOf list m e (tableLength (rows list)) (replicate 16739 0)) 0
   unfolding instanceOf
   start-fits = record {
     tasks = omega (arith, board-ready .tasks, s .few-tasks);
     cores = omega (arith, board-ready .cores, s .few-cores);
     slots = omega (arith, board-ready .slots, s .few-slots);
-    first-is = omega arith;
     slot-in = omega (arith, board-ready .slots, s .some-slot);
   }
 
@@ -243,72 +266,9 @@ module _ {m : ℕ} (list : TaskList) (s : SoundList m (rows list)) (e : ℕ) whe
 
 -- the board of a sound list
 module _ (m : ℕ) (list : TaskList) (e L : ℕ) (sound : IsSound m (rows list)) (eL : L ≡ tableLength (rows list)) where
-  pub board-fits : Fits (boardOf list m e L (replicate 16483 0)) 0 0
+  pub board-fits : Fits (boardOf list m e L (replicate 16739 0)) 0
   board-fits = rw eL (start-fits list (sound-list m (rows list) sound) e)
 
-  pub board-cores : coresOn (boardOf list m e L (replicate 16483 0)) ≡ m
+  pub board-cores : coresOn (boardOf list m e L (replicate 16739 0)) ≡ m
   unfolding instanceOf
   board-cores = rw eL (board-ready list (sound-list m (rows list) sound) e .cores)
-
--- ---- what the search tells
--- what the walk's number makes of the answer and the buffer, n cells long
-pub data Tells (n r : ℕ) (t buffer buffer′ : List ℕ) : Answer → Type 0 where
-  none : r < 4294967296 → buffer′ ≡ filled buffer 0 n (λ _. 0) → Tells n r t buffer buffer′ (record { verdict = 13; tries = r % 4294967296 })
-  found : 4294967296 ≤ r → r < 8589934592 → buffer′ ≡ filled buffer 0 n (nth t) → Tells n r t buffer buffer′ (record { verdict = 0; tries = r % 4294967296 })
-  stopped : 8589934592 ≤ r → buffer′ ≡ filled buffer 0 n (λ _. 0) → Tells n r t buffer buffer′ (record { verdict = 14; tries = r % 4294967296 })
-
--- the first n cells 0
-cleared : (n : ℕ) (buffer : List ℕ) → n ≤ length buffer → filled buffer 0 n (λ _. 0) ≡ over (replicate n 0) buffer
-cleared n buffer room = filled-over n buffer (λ _. 0) room ∙ ap (λ s. over s buffer) (tab-replicate n 0)
-
--- a walk's number, told
-told-end : (n r b : ℕ) (t l buffer : List ℕ) (x : Answer) (buffer′ : List ℕ) (s : State) → Leaves b s r t l → b < 4294967296 → n ≤ length t → n ≤ length buffer
-    → Tells n r t buffer buffer′ x → toldOf x buffer′ ≡ told n buffer (toldAt (s .end) n 0 (s .table) (s .tries))
-unfolding told toldAt
-told-end n r b t l buffer x buffer′ s h few long room (none small e) =
-    let p = packed-nothing (s .end) (s .tries) r (h .answer) small in
-    let whole : r % 4294967296 ≡ s .tries = omega (arith, p .1) in
-    rw (p .0) (λ i. record { verdict = 13; tries = whole i; buffer = (e ∙ cleared n buffer room) i })
-told-end n r b t l buffer x buffer′ s h few long room (found big small e) =
-    let p = packed-found (s .end) (s .tries) r (h .answer) (omega (arith, h .most)) big small in
-    rw (p .0) (λ i. record { verdict = 0; tries = sym (p .1) i; buffer = same i })
-  where
-    same : buffer′ ≡ over (take (n - 0) (drop 0 (s .table))) buffer
-    same = let whole : n ≡ n - 0 = omega arith in e ∙ filled-over n buffer (nth t) room ∙ ap (λ s. over s buffer) (tab-take n t long ∙ (λ i. take (whole i) (h .table i)))
-told-end n r b t l buffer x buffer′ s h few long room (stopped big e) =
-    let p = packed-stopped (s .end) (s .tries) r (h .answer) (omega (arith, h .most)) big in
-    rw (p .0) (λ i. record { verdict = 14; tries = sym (p .1) i; buffer = (e ∙ cleared n buffer room) i })
-
--- the walk on the filled arrays tells what the engine's walk does under the limit
-pub walk-told : (m : ℕ) (list : TaskList) (e b L : ℕ) (buffer : List ℕ) → IsSound m (rows list) → L ≡ tableLength (rows list) → L * m ≤ length buffer → b < 4294967296
-    → (board left : List ℕ) → board ≡ boardOf list m e L (replicate 16483 0) → left ≡ filled (replicate 32768 0) 0 16384 (workAt (list .work))
-    → (r : ℕ) (t l : List ℕ) → Ran board b 0 0 0 (replicate 4096 0) left 0 r t l
-    → (x : Answer) (buffer′ : List ℕ) → Tells (L * m) r t buffer buffer′ x → toldOf x buffer′ ≡ walkTold m (rows list) e b buffer
-unfolding walkTold instanceOf
-walk-told m list e b L buffer sound eL room limited-b board left eb el r t l ran x buffer′ tells =
-    told-end (L * m) r b t l buffer x buffer′ _ (ran .leaves) limited-b (rw (ran .leaves .table) (rw (shows .long) (rw (length-replicate {A = ℕ} 4096 0) few))) room tells
-    ∙ ap (λ k. told (k * m) buffer (toldAt (end .end) (k * m) 0 (end .table) (end .tries))) eL
-    ∙ ap (told (tableLength (rows list) * m) buffer) (shows .answer)
-  where
-    s : SoundList m (rows list)
-    s = sound-list m (rows list) sound
-
-    few : L * m ≤ 4096
-    few = mul-le-mul {n₂ = 1024} {m₂ = 4} (omega (arith, s .few-slots)) (s .few-cores)
-
-    ready : Ready (ownInstance m (rows list)) e board
-    ready = subst (Ready (ownInstance m (rows list)) e) (sym (eb ∙ ap (λ n. boardOf list m e n (replicate 16483 0)) eL)) (board-ready list s e)
-
-    size : cellsOn board - (0 + 0) ≡ tableLength (rows list) * m
-    size = omega (arith, ap₂ (λ a b. a * b) (ready .slots) (ready .cores))
-
-    -- where the walk ends
-    end : State
-    end = walkOn (cellsOn board - (0 + 0)) board b 0 0 0 (replicate 4096 0) left 0
-
-    shows : Shows b (tableLength (rows list) * m) 0 (replicate 4096 0) left end (limited b (walked e (ownInstance m (rows list))))
-    shows = shows-same (ap (λ k. walkOn k board b 0 0 0 (replicate 4096 0) left 0) size) refl
-        (walk-limited (instance-small list s) e b board ready (replicate 4096 0) left
-        (subst (Lefts (ownInstance m (rows list)) 0 (nth (replicate 4096 0))) (sym el) (lefts-start list s e (replicate 4096 0)))
-        (rw (length-replicate {A = ℕ} 4096 0) (omega (arith, few, ap (λ n. n * m) eL)))
-        (ap length el ∙ filled-length (replicate 32768 0) 0 16384 (workAt (list .work)) ∙ length-replicate {A = ℕ} 32768 0))

@@ -25,7 +25,7 @@ use Rattle.tasks.specs.Window.{isOpen, jobAt, lastSlot, openIf, windowAt}
 use Rattle.tasks.proofs.WindowLaws.{pos-T, job-lt}
 use Rattle.tasks.proofs.SoundLaws.{rows-length, rows-task, SoundList, sound-list, length-whole, sound-cyclic}
 use Rattle.walk.specs.Ready.{isQuick}
-use Rattle.search.specs.Board.{Fit, entryFor, gridEntry, evenPair, rowEven, evenMark, twinMark, boardOf}
+use Rattle.search.specs.Board.{Fit, entryFor, gridEntry, evenPair, rowEven, evenMark, twinMark, fitMark, boardOf}
 
 -- ---- places stored one after the other
 module _ (s : List ℕ) (g : ℕ → ℕ) where
@@ -157,11 +157,11 @@ module _ (e : ℕ) (b : Bool) where
       go (suc e) x = rw (← h, t)
 
 -- ---- the board
-pub board-filled : (list : TaskList) (m e L : ℕ) (s grid rates evens twins : List ℕ) → grid ≡ filled s 0 (L * 16) (gridEntry list L)
+pub board-filled : (list : TaskList) (m e L : ℕ) (s grid rates evens twins fits : List ℕ) → grid ≡ filled s 0 (L * 16) (gridEntry list L)
     → rates ≡ filled grid 16384 64 (nth (list .rates)) → evens ≡ filled rates 16448 16 (evenMark list m e) → twins ≡ filled evens 16464 16 (twinMark list e)
-    → set (set (set twins 16480 (list .n)) 16481 m) 16482 L ≡ boardOf list m e L s
+    → fits ≡ filled (set (set (set twins 16480 (list .n)) 16481 m) 16482 L) 16483 256 (fitMark (list .rates)) → fits ≡ boardOf list m e L s
 unfolding boardOf
-board-filled list m e L s grid rates evens twins eg er ee et = rw (et, ee, er, eg)
+board-filled list m e L s grid rates evens twins fits eg er ee et ef = rw (ef, et, ee, er, eg)
 
 -- what a sound list has for the board
 pub sound-fits : (list : TaskList) (m L : ℕ) → IsSound m (rows list) → L ≡ tableLength (rows list)

@@ -3,7 +3,7 @@
 use Prim.Native.Nat.{ℕ, suc, _+_, _*_, _/_, _%_, _≤_}
 use mathlib.Core.Bool.{Bool, cond, _&&_}
 use mathlib.Core.List.{List}
-use lib.Dec.{ltb, eqb}
+use lib.Dec.{leb, ltb, eqb}
 use lib.ListN.{set}
 use Rattle.laws.specs.Sum.{gate}
 use Rattle.laws.specs.Tests.{all, imp}
@@ -61,6 +61,16 @@ coresTwin n rates a b = all n (λ v. eqb (nth rates (v * 4 + a)) (nth rates (v *
 unfoldable pub twinMark : TaskList → ℕ → ℕ → ℕ
 twinMark list e x = gate (isQuick e && coresTwin (list .n) (list .rates) (x % 4) (x / 4)) 1
 
+-- 1 if a rate is positive and within so much work
+unfoldable pub fitBit : ℕ → ℕ → ℕ
+fitBit rate w = gate (ltb 0 rate && leb rate w) 1
+
+-- the cores, as bits, on which the rate of task x / 16 is positive and within work x % 16
+unfoldable pub fitMark : List ℕ → ℕ → ℕ
+fitMark rates x =
+    let bit : ℕ → ℕ = λ j. fitBit (nth rates (x / 16 * 4 + j)) (x % 16) in
+    bit 0 + 2 * bit 1 + 4 * bit 2 + 8 * bit 3
+
 -- the work of the job at a counter
 abbrev pub workAt : List ℕ → ℕ → ℕ
 workAt work x = nth work (x % 16)
@@ -68,9 +78,9 @@ workAt work x = nth work (x % 16)
 -- the board for a list on m cores in L slots, by engine e
 unfoldable pub boardOf : TaskList → ℕ → ℕ → ℕ → List ℕ → List ℕ
 boardOf list m e L s =
-    set (set (set
+    filled (set (set (set
     (filled (filled (filled (filled s 0 (L * 16) (gridEntry list L)) 16384 64 (nth (list .rates))) 16448 16 (evenMark list m e)) 16464 16 (twinMark list e))
-    16480 (list .n)) 16481 m) 16482 L
+    16480 (list .n)) 16481 m) 16482 L) 16483 256 (fitMark (list .rates))
 
 -- a refusal reports 0 tries
 abbrev pub refusedBy : ℕ → Answer

@@ -7,7 +7,7 @@ ghost use Rattle.laws.specs.Lists.{nth, filled};
 ghost use Rattle.tasks.specs.Task.{taskAt, rows};
 ghost use Rattle.tasks.specs.Refusal.{IsSound, tableLength};
 ghost use Rattle.rules.specs.Search.{search as searchOf};
-ghost use Rattle.search.specs.Board.{Fit, entryFor, gridEntry, rowEven, evenPair, evenWith, evenMark, coresTwin, twinMark, workAt, boardOf, walkTold, refusedBy, toldOf};
+ghost use Rattle.search.specs.Board.{Fit, entryFor, gridEntry, rowEven, evenPair, evenWith, evenMark, coresTwin, twinMark, fitBit, fitMark, workAt, boardOf, walkTold, refusedBy, toldOf};
 use tasks::Rates;
 use tasks::Slots;
 use tasks::Soundness;
@@ -26,6 +26,8 @@ const TASKS: usize = 16480;
 const CORES: usize = 16481;
 
 const SLOTS: usize = 16482;
+
+const FITS: usize = 16483;
 
 // Twice the counter of closed slots.
 const CLOSED: u16 = 32768;
@@ -69,7 +71,7 @@ fn grid_entry(list: TaskList, len: Slots, x: usize) -> u16
 }
 
 // The grid, slot by slot.
-fn fill_grid(board: &mut [u16; 16483], list: TaskList, len: Slots)
+fn fill_grid(board: &mut [u16; 16739], list: TaskList, len: Slots)
     requires { ⌜ (list .n ≤ 16) × (len .0 ≤ 1024) × ((k : ℕ) → k < list .n → Fit (len .0) (taskAt list k)) ⌝ }
     ensures { λ _. ⌜ now (board .exit) ≡ filled (now (board .entry)) 0 (len .0 * 16) (gridEntry list (len .0)) ⌝ }
 {
@@ -82,7 +84,7 @@ fn fill_grid(board: &mut [u16; 16483], list: TaskList, len: Slots)
 }
 
 // The rates, four a task.
-fn fill_rates(board: &mut [u16; 16483], rates: [u8; 64])
+fn fill_rates(board: &mut [u16; 16739], rates: [u8; 64])
     ensures { λ _. ⌜ now (board .exit) ≡ filled (now (board .entry)) 16384 64 (nth rates) ⌝ }
 {
     let mut x: usize = 0;
@@ -156,7 +158,7 @@ fn even_mark(list: TaskList, m: u8, engine: u8, v: usize) -> u16
     if even_rates(rates, m as usize) { 1 } else { 0 }
 }
 
-fn fill_even(board: &mut [u16; 16483], list: TaskList, m: u8, engine: u8)
+fn fill_even(board: &mut [u16; 16739], list: TaskList, m: u8, engine: u8)
     requires { ⌜ m ≤ 4 ⌝ }
     ensures { λ _. ⌜ now (board .exit) ≡ filled (now (board .entry)) 16448 16 (evenMark list m engine) ⌝ }
 {
@@ -198,7 +200,7 @@ fn twin_mark(list: TaskList, engine: u8, x: usize) -> u16
     }
 }
 
-fn fill_twins(board: &mut [u16; 16483], list: TaskList, engine: u8)
+fn fill_twins(board: &mut [u16; 16739], list: TaskList, engine: u8)
     requires { ⌜ list .n ≤ 16 ⌝ }
     ensures { λ _. ⌜ now (board .exit) ≡ filled (now (board .entry)) 16464 16 (twinMark list engine) ⌝ }
 {
@@ -209,8 +211,41 @@ fn fill_twins(board: &mut [u16; 16483], list: TaskList, engine: u8)
     }
 }
 
+// 1 if a rate is positive and within so much work.
+fn fit_bit(rate: u8, work: u8) -> u16
+    ensures { λ r. ⌜ (r ≡ fitBit rate work) × (r ≤ 1) ⌝ }
+{
+    if rate == 0 {
+        return 0;
+    }
+    if work < rate { 0 } else { 1 }
+}
+
+// The mark at place x, sixteen a task: the cores, as bits, on which its rate is positive and within work x % 16.
+fn fit_mark(rates: [u8; 64], x: usize) -> u16
+    requires { ⌜ x < 256 ⌝ }
+    ensures { λ r. ⌜ r ≡ fitMark rates x ⌝ }
+{
+    let k = x / 16 * 4;
+    let work = (x % 16) as u8;
+    fit_bit(rates[k], work)
+        + 2 * fit_bit(rates[k + 1], work)
+        + 4 * fit_bit(rates[k + 2], work)
+        + 8 * fit_bit(rates[k + 3], work)
+}
+
+fn fill_fits(board: &mut [u16; 16739], rates: [u8; 64])
+    ensures { λ _. ⌜ now (board .exit) ≡ filled (now (board .entry)) 16483 256 (fitMark rates) ⌝ }
+{
+    let mut x: usize = 0;
+    while x < 256 {
+        board[FITS + x] = fit_mark(rates, x);
+        x += 1;
+    }
+}
+
 // The board of a sound list.
-fn fill_board(board: &mut [u16; 16483], list: TaskList, m: u8, engine: u8, len: Slots)
+fn fill_board(board: &mut [u16; 16739], list: TaskList, m: u8, engine: u8, len: Slots)
     requires { ⌜ (list .n ≤ 16) × (m ≤ 4) × (len .0 ≤ 1024) × ((k : ℕ) → k < list .n → Fit (len .0) (taskAt list k)) ⌝ }
     ensures { λ _. ⌜ now (board .exit) ≡ boardOf list m engine (len .0) (now (board .entry)) ⌝ }
 {
@@ -222,6 +257,7 @@ fn fill_board(board: &mut [u16; 16483], list: TaskList, m: u8, engine: u8, len: 
     board[TASKS] = list.n as u16;
     board[CORES] = m as u16;
     board[SLOTS] = len.0;
+    fill_fits(board, rates);
 }
 
 // Each job's work, sixteen counters a job number.
@@ -277,15 +313,16 @@ fn walk_list(list: TaskList, m: u8, engine: u8, limit: u32, len: Slots, table: &
     requires { ⌜ IsSound m (rows list) × (len .0 ≡ tableLength (rows list)) × (engine ≤ 1) × (len .0 * m ≤ length (now table)) ⌝ }
     ensures { λ r. ⌜ toldOf r (now (table .exit)) ≡ walkTold m (rows list) engine limit (now (table .entry)) ⌝ }
 {
-    let mut board = [0; 16483];
+    let mut board = [0; 16739];
     let mut left = [0; 32768];
     let mut cells = [0; 4096];
     fill_board(&mut board, list, m, engine, len);
     let work = list.work;
     fill_left(&mut left, work);
     let n = len.0 as usize * m as usize;
-    let w = walk::cell(&mut cells, &board, 0, 0, 0, 0, &mut left, limit);
-    let tries = (w % walk::FOUND) as u32;
+    let start = walk::FULL - limit;
+    let w = walk::walk(&mut cells, &board, &mut left, start);
+    let tries = (w % walk::FOUND) as u32 - start;
     if w < walk::FOUND {
         clear(table, n);
         return Answer {

@@ -1,30 +1,23 @@
 -- The tests of the walk on its arrays, as its loops find them.
 -- Assumes nothing.
-use Prim.Native.Nat.{ℕ, zero, suc, _+_, _%_, _≤_, _<_, max}
+use Prim.Native.Nat.{ℕ, zero, suc, _+_, _*_, _-_, _%_, _^_, _≤_, _<_, max, min}
 use native.Mathlib.Omega.{arith}
 use native.Mathlib.Numerals.{add-one}
+use native.Mathlib.Nat.{add-zero, mod-lt, lt-of-lt-of-le, pow-le-pow-right}
 use mathlib.Core.Path.{_≡_, refl, sym, ap, ap₂, _∙_}
 use mathlib.Core.Logic.{_≢_}
-use mathlib.Core.Bool.{Bool, true, false, not, _&&_}
-use mathlib.Core.List.{List, [], _∷_}
-use lib.Dec.{leb, ltb, eqb, leb→le}
-use borrow.Author.Tests.{lt-ltb, le-ltb, le-leb, lt-leb, eq-eqb, ne-eqb}
+use mathlib.Core.Bool.{Bool, true, false, not}
+use mathlib.Core.List.{List}
+use lib.Dec.{eqb}
+use borrow.Author.Tests.{eq-eqb, ne-eqb}
+use lib.ListN.{set}
 use Rattle.laws.specs.Lists.{nth}
 use Rattle.laws.specs.Sum.{gate}
 use Rattle.laws.specs.Order.{rankOf}
-use Rattle.laws.proofs.TestLaws.{all-false, all-true, every-holds}
-use Rattle.walk.specs.Machine.{most, freeOn, entryOn, rateOn, twinOn, tasksOn, counterOn, permittedOn, twinRankOn, floorOn, settledOn, closesOn}
-
--- ---- a value that is free
--- it stands on an earlier core
-pub free-not : (t : List ℕ) (first core v j : ℕ) → j < core → nth t (first + j) ≡ v → false ≡ freeOn t first core v
-unfolding freeOn
-free-not t first core v j l e = sym (all-false core _ j l (ap not (eq-eqb (nth t (first + j)) v e)))
-
--- it stands on none
-pub free-yes : (t : List ℕ) (first core v : ℕ) → ((k : ℕ) → k < core → nth t (first + k) ≡ v → ⊥) → true ≡ freeOn t first core v
-unfolding freeOn
-free-yes t first core v none = sym (all-true core _ (λ k l. ap not (ne-eqb (nth t (first + k)) v (none k l))))
+use Rattle.laws.proofs.TestLaws.{all-false, all-true}
+use Rattle.sets.specs.Sets.{has, pushed}
+use Rattle.sets.proofs.SetLaws.{none-has, pushed-first, pushed-next, pushed-lt}
+use Rattle.walk.specs.Machine.{most, entryOn, twinOn, tasksOn, counterOn, fitOn, setsFrom, setsOn, twinRankOn, floorOn, settledOn, closesOn}
 
 -- ---- the highest rank
 -- one core more
@@ -84,40 +77,57 @@ module _ (board t : List ℕ) (first core j : ℕ) where
       rank-same zero h = absurd (h refl)
       rank-same (suc y) h = refl
 
--- ---- a task that may stand in a cell
-module _ (board t l : List ℕ) (first slot core v r k : ℕ) (er : r ≡ rateOn board v core) where
-  -- its rate is 0
-  pub not-rated : r ≡ 0 → false ≡ permittedOn board t l first slot core v
-  unfolding permittedOn
-  not-rated z = rw (le-ltb 0 (rateOn board v core) (omega arith))
+-- ---- the work left
+-- a rate taken off
+pub put-off : (l : List ℕ) (k rate r : ℕ) → r ≡ nth l k - rate → set l k r ≡ set l k (nth l k - rate)
+put-off l k rate r e = ap (set l k) e
 
-  -- its rate is above the work left
-  pub not-left : r ≢ 0 → k ≡ counterOn board slot v → nth l k < r → false ≡ permittedOn board t l first slot core v
-  unfolding permittedOn
-  not-left x ek less = rw (
-    lt-ltb 0 (rateOn board v core) (omega arith),
-    lt-leb (rateOn board v core) (nth l (counterOn board slot v)) (omega (arith, ap (nth l) ek)),
-  )
+-- ---- the sets of a slot
+-- the cores that a task fits
+pub fit-is : (board : List ℕ) (v w x : ℕ) → x ≡ min w 15 → nth board (16483 + (v * 16 + x)) % 16 ≡ fitOn board v w
+fit-is board v w x e = ap (λ x. nth board (16483 + (v * 16 + x)) % 16) e
 
-  -- it is free or not
-  pub if-free : r ≢ 0 → k ≡ counterOn board slot v → r ≤ nth l k → (b : Bool) → b ≡ freeOn t first core (v + 1) → b ≡ permittedOn board t l first slot core v
-  unfolding permittedOn
-  if-free x ek some b e = rw (
-    lt-ltb 0 (rateOn board v core) (omega arith),
-    le-leb (rateOn board v core) (nth l (counterOn board slot v)) (omega (arith, ap (nth l) ek)),
-    ← e,
-  ) (and-true b)
-    where
-      and-true : (b : Bool) → b ≡ b && true
-      and-true true = refl
-      and-true false = refl
+module _ (board l : List ℕ) (slot : ℕ) where
+  -- no task yet
+  pub sets-none-yet : (n : ℕ) → n ≡ tasksOn board → 0 ≡ setsFrom board l slot (tasksOn board - n) n
+  unfolding setsFrom
+  sets-none-yet n e = let z : tasksOn board - n ≡ 0 = omega arith in ap (λ j. setsFrom board l slot j n) (sym z)
 
-  -- a task that may stand there has its rate left
-  pub rate-left : permittedOn board t l first slot core v ≡ true → k ≡ counterOn board slot v → r ≤ nth l k
-  unfolding permittedOn
-  rate-left e ek = omega (
-    arith,
-    ap (nth l) ek,
-    leb→le (rateOn board v core) (nth l (counterOn board slot v)) (every-holds
-        (ltb 0 (rateOn board v core) ∷ leb (rateOn board v core) (nth l (counterOn board slot v)) ∷ freeOn t first core (v + 1) ∷ []) (rw e tt) .1 .0),
-  )
+  -- a task more
+  pub sets-more : (n v s f k : ℕ) → v < tasksOn board → s ≡ setsFrom board l slot (tasksOn board - n) n → n ≡ suc v → k ≡ counterOn board slot v → f ≡ fitOn board v (nth l k)
+      → pushed s f ≡ setsFrom board l slot (tasksOn board - v) v
+  unfolding setsFrom
+  sets-more n v s f k lv es en ek ef =
+      let more : tasksOn board - v ≡ suc (tasksOn board - n) = omega arith in
+      ap₂ pushed (es ∙ ap (setsFrom board l slot (tasksOn board - n)) en) (ef ∙ ap (λ x. fitOn board v (nth l x)) ek) ∙ ap (λ j. setsFrom board l slot j v) (sym more)
+
+  -- all tasks
+  pub sets-all : (n s : ℕ) → n ≡ 0 → s ≡ setsFrom board l slot (tasksOn board - n) n → s ≡ setsOn board l slot
+  sets-all n s z e = let all : tasksOn board - n ≡ tasksOn board = omega arith in e ∙ (λ i. setsFrom board l slot (all i) (z i))
+
+  -- j tasks have 4 * j bits
+  pub sets-lt : (j v : ℕ) → setsFrom board l slot j v < 16 ^ j
+  unfolding setsFrom
+  sets-lt zero v = omega arith
+  sets-lt (suc j) v = pushed-lt (setsFrom board l slot j (suc v)) _ j (sets-lt j (suc v)) (mod-lt _ (omega arith))
+
+  -- there is room for one more
+  pub sets-room : (n s : ℕ) → tasksOn board ≤ 16 → 0 < n → n ≤ tasksOn board → s ≡ setsFrom board l slot (tasksOn board - n) n → s < 2 ^ 60
+  sets-room n s few pos ln es =
+      let up : 16 ^ (tasksOn board - n) ≤ 16 ^ 15 = pow-le-pow-right (omega arith) {j = 15} (omega arith) in
+      rw es (lt-of-lt-of-le (sets-lt (tasksOn board - n) n) up)
+
+  -- a task is in the set of a core if its rate there fits
+  pub sets-has : (j v w c : ℕ) → w < j → c < 4 → has (setsFrom board l slot j v) w c ≡ has (fitOn board (v + w) (nth l (counterOn board slot (v + w)))) 0 c
+  unfolding setsFrom
+  sets-has zero v w c lw lc = absurd (omega arith)
+  sets-has (suc j) v zero c lw lc = pushed-first _ _ c (mod-lt _ (omega arith)) lc ∙ ap (λ x. has (fitOn board x (nth l (counterOn board slot x))) 0 c) (sym (add-zero v))
+  sets-has (suc j) v (suc w) c lw lc = pushed-next _ _ w c (mod-lt _ (omega arith)) ∙ sets-has j (suc v) w c (omega arith) lc
+      ∙ ap (λ x. has (fitOn board x (nth l (counterOn board slot x))) 0 c) (omega arith)
+
+  -- and no other task
+  pub sets-none : (j v w c : ℕ) → j ≤ w → has (setsFrom board l slot j v) w c ≡ false
+  unfolding setsFrom
+  sets-none zero v w c l = none-has w c
+  sets-none (suc j) v zero c l = absurd (omega arith)
+  sets-none (suc j) v (suc w) c l = pushed-next _ _ w c (mod-lt _ (omega arith)) ∙ sets-none j (suc v) w c (omega arith)

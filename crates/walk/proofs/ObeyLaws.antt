@@ -21,9 +21,10 @@ use Rattle.rules.specs.Rules.{permitted, closed, rank, evenRates, twin, idleTri
 use Rattle.rules.specs.Search.{ruleOf}
 use Rattle.rules.proofs.Plain.{prefix-permitted, prefix-closed}
 use Rattle.rules.proofs.Quick.{prefix-quickly}
-use Rattle.walk.specs.Machine.{most, evenOn, tasksOn, permittedOn, twinRankOn, floorOn}
-use Rattle.walk.specs.Ready.{Small, Ready, Lefts}
-use Rattle.walk.proofs.ReadyLaws.{test-same, core-is, beside-at, permitted-is}
+use Rattle.sets.specs.Sets.{has}
+use Rattle.walk.specs.Machine.{most, evenOn, tasksOn, twinRankOn, floorOn}
+use Rattle.walk.specs.Ready.{Small, Ready}
+use Rattle.walk.proofs.ReadyLaws.{test-same, Sets, core-is, beside-at, permitted-is}
 
 -- ---- numbers and tests
 -- the largest is at most x exactly if each is
@@ -93,10 +94,10 @@ closes-prefix P zero c t room = prefix-closed P c t room
 closes-prefix P (suc e) c t room = prefix-closed P c t room
 
 module _ {P : Instance} (small : Small P) (board : List ℕ) {first slot core : ℕ} (ef : first ≡ slot * P .cores) (ls : slot < P .slots) (lc : core < P .cores)
-    (t l : List ℕ) (room : first + core ≤ length t) (lefts : Lefts P (first + core) (nth t) l) where
+    (t : List ℕ) (room : first + core ≤ length t) {sets : ℕ} (holds : Sets P slot core (first + core) (nth t) sets) where
   -- what the plain rule permits
-  plain-is : {e : ℕ} → Ready P e board → (v : ℕ) → v < P .tasks → permitted P (length (take (first + core) t)) (nth (take (first + core) t)) (suc v) ≡ permittedOn board t l first slot core v
-  plain-is ready v lv = prefix-permitted P (first + core) t room (suc v) ∙ sym (permitted-is small ready ef ls lc t l lefts v lv)
+  plain-is : {e : ℕ} → Ready P e board → (v : ℕ) → v < P .tasks → permitted P (length (take (first + core) t)) (nth (take (first + core) t)) (suc v) ≡ has sets v core
+  plain-is ready v lv = prefix-permitted P (first + core) t room (suc v) ∙ sym (permitted-is small ready ef ls lc (nth t) holds v lv)
 
   -- the plain rule knows no twins
   floor-plain : Ready P 0 board → (v : ℕ) → leb (floorOn board t first core) (v + 1) ≡ true
@@ -114,23 +115,23 @@ module _ {P : Instance} (small : Small P) (board : List ℕ) {first slot core : 
 
   -- the tasks that are tried
   pub task-tried : (e : ℕ) → Ready P e board → (v : ℕ) → v < P .tasks
-      → ruleOf e P .tried (take (first + core) t) (suc v) ≡ permittedOn board t l first slot core v && leb (floorOn board t first core) (v + 1)
+      → ruleOf e P .tried (take (first + core) t) (suc v) ≡ has sets v core && leb (floorOn board t first core) (v + 1)
   unfolding quickly ruleA
   task-tried zero ready v lv = plain-is ready v lv ∙ sym (and-true _ _ (floor-plain ready v))
   task-tried (suc e) ready v lv = prefix-quickly P (first + core) t room (suc v)
-      ∙ ap₂ (λ a b. a && (true && (b && true))) (sym (permitted-is small ready ef ls lc t l lefts v lv)) (sym (floor-quick ready (suc v) (v + 1) (sym (add-one v))))
-      ∙ ap (λ b. permittedOn board t l first slot core v && b) (and-true _ true refl)
+      ∙ ap₂ (λ a b. a && (true && (b && true))) (sym (permitted-is small ready ef ls lc (nth t) holds v lv)) (sym (floor-quick ready (suc v) (v + 1) (sym (add-one v))))
+      ∙ ap (λ b. has sets v core && b) (and-true _ true refl)
 
   -- whether idle is tried
   pub idle-tried : (e : ℕ) → Ready P e board → ((d : ℕ) → d < first + core → nth t d ≤ P .tasks)
-      → ruleOf e P .tried (take (first + core) t) 0 ≡ eqb (sum (tasksOn board) (λ v. gate (permittedOn board t l first slot core v) (evenOn board v))) 0
+      → ruleOf e P .tried (take (first + core) t) 0 ≡ eqb (sum (tasksOn board) (λ v. gate (has sets v core) (evenOn board v))) 0
   unfolding quickly permitted ruleA idleTried
   idle-tried zero ready known = sym (eqb-sum (tasksOn board) _
-      ∙ all-true (tasksOn board) _ (λ v lv. rw (ready .evens v (rw (ready .tasks) at lv)) (eqb-even (permittedOn board t l first slot core v) false ∙ imp-true (permittedOn board t l first slot core v))))
+      ∙ all-true (tasksOn board) _ (λ v lv. rw (ready .evens v (rw (ready .tasks) at lv)) (eqb-even (has sets v core) false ∙ imp-true (has sets v core))))
   idle-tried (suc e) ready known = prefix-quickly P (first + core) t room 0
       ∙ ap₂ (λ a b. true && (a && (b && true))) (sym evens) (idle-ranked P (first + core) (nth t) known)
       ∙ and-true _ true refl
     where
-      evens : eqb (sum (tasksOn board) (λ v. gate (permittedOn board t l first slot core v) (evenOn board v))) 0 ≡ idleTried P (first + core) (nth t)
+      evens : eqb (sum (tasksOn board) (λ v. gate (has sets v core) (evenOn board v))) 0 ≡ idleTried P (first + core) (nth t)
       evens = eqb-sum (tasksOn board) _ ∙ rw (ready .tasks) (all-same (P .tasks) _ _ (λ v lv.
-          rw (ready .evens v lv, permitted-is small ready ef ls lc t l lefts v lv) (eqb-even (permitted P (first + core) (nth t) (suc v)) (evenRates P (suc v)))))
+          rw (ready .evens v lv, permitted-is small ready ef ls lc (nth t) holds v lv) (eqb-even (permitted P (first + core) (nth t) (suc v)) (evenRates P (suc v)))))

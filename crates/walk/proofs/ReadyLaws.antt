@@ -4,28 +4,31 @@ use Prim.Native.Nat.{ℕ, suc, _+_, _*_, _-_, _/_, _%_, _≤_, _<_}
 use native.Mathlib.Omega.{arith}
 use native.Mathlib.Numerals.{add-one}
 use native.Mathlib.Decide.{ℕ-discrete}
-use native.Mathlib.Nat.{suc-inj, eq-of-mul-eq-mul-right, mul-mod-left}
+use native.Mathlib.Nat.{zero-add, suc-inj, eq-of-mul-eq-mul-right, mul-mod-left}
 use mathlib.Core.Path.{_≡_, refl, sym, ap, ap₂, _∙_}
 use mathlib.Core.Logic.{_≢_}
-use mathlib.Core.Bool.{Bool, true, false, cond, not}
+use mathlib.Core.Bool.{Bool, true, false, cond, not, _&&_}
 use mathlib.Core.List.{List, [], _∷_}
 use lib.Arith.{digits-div, digits-mod}
 use lib.Dec.{T, leb, ltb, eqb, leb→le, le→leb, ltb→lt, lt→ltb, eqb→eq, T-not}
 use lib.ListN.{length, set}
 use lib.Seq.{getD-set-same, getD-set-other}
-use borrow.Author.Tests.{eq-eqb, ne-eqb}
+use borrow.Author.Tests.{le-leb, eq-eqb, ne-eqb}
 use Rattle.laws.specs.Sum.{gate, sum}
-use Rattle.laws.specs.Tests.{all}
+use Rattle.laws.specs.Tests.{every, all}
 use Rattle.laws.specs.Lists.{nth}
-use Rattle.laws.proofs.TestLaws.{every-holds, holds-every, all-at, at-all, all-same, all-true, imp-use, imp-make}
+use Rattle.laws.proofs.TestLaws.{both, make-both, every-holds, holds-every, all-at, at-all, all-same, all-true, imp-use, imp-make}
 use Rattle.tasks.specs.Instance.{Instance, jobEnd}
 use Rattle.table.specs.Table.{slotOf, coreOf, beside, share, done, workLeft, free}
 use Rattle.table.proofs.JobLaws.{slot-job}
-use Rattle.table.proofs.TableLaws.{done-same}
+use Rattle.table.proofs.TableLaws.{beside-before, done-same}
 use Rattle.table.proofs.ShareLaws.{share-none, share-own}
 use Rattle.rules.specs.Rules.{tests, permitted, settled, closed}
-use Rattle.walk.specs.Machine.{entryOn, rateOn, counterOn, freeOn, permittedOn, settledOn, closesOn}
+use Rattle.sets.specs.Sets.{has, without}
+use Rattle.sets.proofs.SetLaws.{without-has}
+use Rattle.walk.specs.Machine.{entryOn, rateOn, tasksOn, counterOn, fitOn, setsOn, settledOn, closesOn}
 use Rattle.walk.specs.Ready.{Small, counterOf, closedCounter, entryOf, Ready, Lefts}
+use Rattle.walk.proofs.MachineLaws.{sets-has}
 
 -- two tests that pass together are the same
 pub test-same : (a b : Bool) → (T a → T b) → (T b → T a) → a ≡ b
@@ -76,6 +79,27 @@ gate-pass false h = absurd h
 pub test-cases : {A : Type 0} (b : Bool) → (T b → A) → ((T b → ⊥) → A) → A
 test-cases true f g = f tt
 test-cases false f g = g (λ x. x)
+
+-- ---- the sets of a slot
+-- whether task v + 1 may stand on core j of a slot, after the cells before c
+abbrev may-tests : Instance → ℕ → ℕ → (ℕ → ℕ) → ℕ → ℕ → List Bool
+may-tests P slot c f v j =
+    P .opens (suc v) slot ∷ ltb 0 (P .rate (suc v) j) ∷ free P c f (suc v) ∷ leb (P .rate (suc v) j) (workLeft P c f (suc v) (P .job (suc v) slot)) ∷ []
+
+-- the sets have the tasks that may stand on the cores from `core` on
+pub record Sets (P : Instance) (slot core c : ℕ) (f : ℕ → ℕ) (sets : ℕ) : Type 0 where
+  pub may : (v j : ℕ) → v < P .tasks → core ≤ j → j < P .cores → has sets v j ≡ every (may-tests P slot c f v j)
+
+-- the same for the same cells before c
+pub sets-same : {P : Instance} {slot core c : ℕ} {f g : ℕ → ℕ} {sets : ℕ} → ((d : ℕ) → d < c → f d ≡ g d) → Sets P slot core c f sets → Sets P slot core c g sets
+unfolding free
+sets-same {P} {slot} {c = c} {f} {g} h holds = record {
+  may = λ v j lv lo hi. holds .may v j lv lo hi
+      ∙ ap₂ (λ a b. every (P .opens (suc v) slot ∷ ltb 0 (P .rate (suc v) j) ∷ a ∷ leb (P .rate (suc v) j) (P .work (suc v) - b) ∷ [])) (free-same (suc v)) (done-same P c f g h (suc v) (P .job (suc v) slot));
+}
+  where
+    free-same : (i : ℕ) → free P c f i ≡ free P c g i
+    free-same i = all-same (coreOf P c) _ _ (λ k l. ap (λ x. not (eqb x i)) (h (beside P c k) (beside-before P c k l)))
 
 module _ {P : Instance} {e : ℕ} {board : List ℕ} (small : Small P) (ready : Ready P e board) where
   module _ {slot v : ℕ} (ls : slot < P .slots) (lv : v < P .tasks) where
@@ -159,66 +183,14 @@ module _ {P : Instance} {e : ℕ} {board : List ℕ} (small : Small P) (ready : 
     pub beside-at : (j : ℕ) → beside P (first + core) j ≡ first + j
     beside-at j = ap (λ x. x * P .cores + j) slot-is ∙ ap (λ x. x + j) (sym ef)
 
-    -- a value is free
-    pub free-is : (t : List ℕ) (v : ℕ) → freeOn t first core v ≡ free P (first + core) (nth t) v
-    unfolding freeOn free
-    free-is t v = all-same core _ _ (λ j l. ap (λ x. not (eqb (nth t x) v)) (sym (beside-at j))) ∙ ap (λ n. all n (λ j. not (eqb (nth t (beside P (first + core) j)) v))) (sym core-is)
+    -- a task in the core's set is permitted
+    pub permitted-is : {sets : ℕ} (f : ℕ → ℕ) → Sets P slot core (first + core) f sets → (v : ℕ) → v < P .tasks → has sets v core ≡ permitted P (first + core) f (suc v)
+    unfolding permitted tests
+    permitted-is f holds v lv = holds .may v core lv (omega arith) lc ∙ sym (rw (slot-is, core-is, le-leb (suc v) (P .tasks) lv))
 
-    module _ (t l : List ℕ) (lefts : Lefts P (first + core) (nth t) l) (v : ℕ) (lv : v < P .tasks) where
-      -- a task that the arrays permit is permitted
-      to-permitted : T (permittedOn board t l first slot core v) → T (permitted P (first + core) (nth t) (suc v))
-      unfolding permittedOn permitted tests
-      to-permitted h =
-          let p = every-holds (ltb 0 (rateOn board v core) ∷ leb (rateOn board v core) (nth l (counterOn board slot v)) ∷ freeOn t first core (v + 1) ∷ []) h in
-          let pos = ltb→lt 0 (rateOn board v core) (p .0) in
-          let fits = leb→le (rateOn board v core) (nth l (counterOn board slot v)) (p .1 .0) in
-          test-cases (P .opens (suc v) slot)
-          (λ o. rw (slot-is, core-is) (holds-every
-          (leb (suc v) (P .tasks) ∷ P .opens (suc v) slot ∷ ltb 0 (P .rate (suc v) core) ∷ free P (first + core) (nth t) (suc v)
-          ∷ leb (P .rate (suc v) core) (workLeft P (first + core) (nth t) (suc v) (P .job (suc v) slot)) ∷ []) (
-            le→leb (suc v) (P .tasks) lv,
-            (
-              o,
-              (
-                lt→ltb 0 (P .rate (suc v) core) (omega (arith, ready .rates v core lv lc)),
-                (
-                  rw (free-is t (v + 1), add-one) at (p .1 .1 .0),
-                  (le→leb (P .rate (suc v) core) (workLeft P (first + core) (nth t) (suc v) (P .job (suc v) slot)) (omega (arith, ready .rates v core lv lc, left-open ls lv (first + core) (nth t) l lefts o)), tt),
-                ),
-              ),
-            ),
-          )))
-          (λ x. absurd (omega (arith, lefts .none-closed, ap (nth l) (counter-closed ls lv x .0))))
-
-      -- and a permitted task is one that the arrays permit
-      from-permitted : T (permitted P (first + core) (nth t) (suc v)) → T (permittedOn board t l first slot core v)
-      unfolding permittedOn permitted tests
-      from-permitted h =
-          let p = every-holds
-          (leb (suc v) (P .tasks) ∷ P .opens (suc v) slot ∷ ltb 0 (P .rate (suc v) core) ∷ free P (first + core) (nth t) (suc v)
-          ∷ leb (P .rate (suc v) core) (workLeft P (first + core) (nth t) (suc v) (P .job (suc v) slot)) ∷ []) (rw (slot-is, core-is) at h) in
-          let pos = ltb→lt 0 (P .rate (suc v) core) (p .1 .1 .0) in
-          let fits = leb→le (P .rate (suc v) core) _ (p .1 .1 .1 .1 .0) in
-          holds-every (ltb 0 (rateOn board v core) ∷ leb (rateOn board v core) (nth l (counterOn board slot v)) ∷ freeOn t first core (v + 1) ∷ []) (
-            lt→ltb 0 (rateOn board v core) (omega (arith, ready .rates v core lv lc)),
-            (
-              le→leb (rateOn board v core) (nth l (counterOn board slot v)) (omega (arith, ready .rates v core lv lc, left-open ls lv (first + core) (nth t) l lefts (p .1 .0))),
-              (rw (free-is t (v + 1), add-one) (p .1 .1 .1 .0), tt),
-            ),
-          )
-
-      -- the arrays permit exactly the permitted tasks
-      pub permitted-is : permittedOn board t l first slot core v ≡ permitted P (first + core) (nth t) (suc v)
-      permitted-is = test-same _ _ to-permitted from-permitted
-
-      -- a permitted task is open, with a positive rate within its job's work left
-      pub permitted-tells : T (permittedOn board t l first slot core v) → T (P .opens (suc v) slot) × (0 < rateOn board v core)
-      unfolding permittedOn
-      permitted-tells h =
-          let p = every-holds (ltb 0 (rateOn board v core) ∷ leb (rateOn board v core) (nth l (counterOn board slot v)) ∷ freeOn t first core (v + 1) ∷ []) h in
-          let pos = ltb→lt 0 (rateOn board v core) (p .0) in
-          let fits = leb→le (rateOn board v core) (nth l (counterOn board slot v)) (p .1 .0) in
-          test-cases (P .opens (suc v) slot) (λ o. (o, pos)) (λ x. absurd (omega (arith, lefts .none-closed, ap (nth l) (counter-closed ls lv x .0))))
+    -- it is open
+    pub open-tells : {sets : ℕ} (f : ℕ → ℕ) → Sets P slot core (first + core) f sets → (v : ℕ) → v < P .tasks → has sets v core ≡ true → T (P .opens (suc v) slot)
+    open-tells f holds v lv h = every-holds (may-tests P slot (first + core) f v core) (rw (sym (holds .may v core lv (omega arith) lc) ∙ h) tt) .0
 
     -- ---- a value put into the cell
     module _ (t : List ℕ) (w : ℕ) (room : first + core < length t) where
@@ -284,3 +256,80 @@ module _ {P : Instance} {e : ℕ} {board : List ℕ} (small : Small P) (ready : 
         ];
         none-closed = getD-set-other l (counterOn board slot v) closedCounter _ 0 (omega (arith, counter-in)) ∙ lefts .none-closed;
       }
+
+  -- ---- the sets after a value in the cell
+  module _ {first slot core : ℕ} (ef : first ≡ slot * P .cores) (ls : slot < P .slots) (lc : core < P .cores) where
+    module _ (t : List ℕ) (w : ℕ) (room : first + core < length t) (more : core + 1 < P .cores) where
+      -- the next core has one more beside it
+      free-next : (i : ℕ) → free P (suc (first + core)) (nth (set t (first + core) w)) i ≡ free P (first + core) (nth t) i && not (eqb w i)
+      unfolding free
+      free-next i = ap (λ c. all (coreOf P c) (λ j. not (eqb (nth (set t (first + core) w) (beside P c j)) i))) here
+          ∙ ap (λ n. all n (λ j. not (eqb (nth (set t (first + core) w) (beside P (first + (core + 1)) j)) i))) (core-is ef ls more ∙ add-one core)
+          ∙ ap₂ _&&_
+          (all-same core _ _ (λ j l. ap (λ x. not (eqb x i)) (ap (nth (set t (first + core) w)) (beside-at ef ls more j) ∙ getD-set-other t (first + core) (first + j) w 0 (omega arith) ∙ ap (nth t) (sym (beside-at ef ls lc j))))
+          ∙ ap (λ n. all n (λ j. not (eqb (nth t (beside P (first + core) j)) i))) (sym (core-is ef ls lc)))
+          (ap (λ x. not (eqb x i)) (ap (nth (set t (first + core) w)) (beside-at ef ls more core) ∙ getD-set-same t (first + core) w 0 room))
+        where
+          here : suc (first + core) ≡ first + (core + 1)
+          here = omega arith
+
+      -- another task may stand there as before
+      may-other : (v j : ℕ) → suc v ≢ w → every (may-tests P slot (suc (first + core)) (nth (set t (first + core) w)) v j) ≡ every (may-tests P slot (first + core) (nth t) v j)
+      may-other v j x = ap₂ (λ a b. every (P .opens (suc v) slot ∷ ltb 0 (P .rate (suc v) j) ∷ a ∷ leb (P .rate (suc v) j) (P .work (suc v) - b) ∷ [])) same-free same-done
+        where
+          and-true : (b : Bool) → b && true ≡ b
+          and-true true = refl
+          and-true false = refl
+
+          same-free : free P (suc (first + core)) (nth (set t (first + core) w)) (suc v) ≡ free P (first + core) (nth t) (suc v)
+          same-free = free-next (suc v) ∙ ap (λ b. free P (first + core) (nth t) (suc v) && not b) (ne-eqb w (suc v) (λ e. x (sym e))) ∙ and-true _
+
+          same-done : done P (suc (first + core)) (nth (set t (first + core) w)) (suc v) (P .job (suc v) slot) ≡ done P (first + core) (nth t) (suc v) (P .job (suc v) slot)
+          same-done = ap (λ c. done P c (nth (set t (first + core) w)) (suc v) (P .job (suc v) slot)) (sym (add-one (first + core))) ∙ done-put ef ls lc t w room (suc v) (P .job (suc v) slot)
+              ∙ omega (arith, share-none P (suc v) (P .job (suc v) slot) (first + core) w (λ e _. x (sym e)))
+
+      -- the task that stands there may not
+      may-own : (v j : ℕ) → suc v ≡ w → every (may-tests P slot (suc (first + core)) (nth (set t (first + core) w)) v j) ≡ false
+      may-own v j e = test-same _ _ (λ h. absurd (stands (every-holds (may-tests P slot (suc (first + core)) (nth (set t (first + core) w)) v j) h .1 .1 .0))) (λ h. absurd h)
+        where
+          stands : T (free P (suc (first + core)) (nth (set t (first + core) w)) (suc v)) → ⊥
+          stands h = T-not (eqb w (suc v)) (both (free P (first + core) (nth t) (suc v)) (not (eqb w (suc v))) (rw (free-next (suc v)) at h) .1) (rw (eq-eqb w (suc v) (sym e)) tt)
+
+    module _ (t : List ℕ) (room : first + core < length t) {sets : ℕ} (holds : Sets P slot core (first + core) (nth t) sets) where
+      -- idle leaves the sets as they are
+      pub sets-idle : Sets P slot (core + 1) (suc (first + core)) (nth (set t (first + core) 0)) sets
+      sets-idle = record { may = λ v j lv lo hi. holds .may v j lv (omega arith) hi ∙ sym (may-other t 0 room (omega arith) v j (λ z. omega arith)) }
+
+      -- a task goes out of them
+      pub sets-put : (x : ℕ) → x < 16 → Sets P slot (core + 1) (suc (first + core)) (nth (set t (first + core) (x + 1))) (without sets x)
+      sets-put x lx = record {
+        may = λ v j lv lo hi. without-has sets x v j lx (omega (arith, small .few-cores)) ∙ elim (ℕ-discrete v x) [
+          | yes q ↦ rw (eq-eqb v x q) (sym (may-own t (x + 1) room (omega arith) v j (omega arith)))
+          | no y ↦ rw (ne-eqb v x y) (holds .may v j lv (omega arith) hi ∙ sym (may-other t (x + 1) room (omega arith) v j (λ z. y (omega arith))))
+        ];
+      }
+
+  -- ---- the sets at the start of a slot
+  pub sets-start : {first slot : ℕ} → first ≡ slot * P .cores → slot < P .slots → (t l : List ℕ) → Lefts P first (nth t) l → Sets P slot 0 first (nth t) (setsOn board l slot)
+  unfolding free
+  sets-start {first} {slot} ef ls t l lefts = record {
+    may = λ v j lv _ lj. sets-has board l slot (tasksOn board) 0 v j (rw (ready .tasks) lv) (omega (arith, small .few-cores))
+        ∙ ap (λ x. has (fitOn board x (nth l (counterOn board slot x))) 0 j) (zero-add v)
+        ∙ ready .fits v j (nth l (counterOn board slot v)) lv lj
+        ∙ fitting v j lv;
+  }
+    where
+      core-zero : coreOf P first ≡ 0
+      core-zero = ap (λ x. x % P .cores) ef ∙ mul-mod-left slot (P .cores)
+
+      is-free : (i : ℕ) → free P first (nth t) i ≡ true
+      is-free i = rw core-zero
+
+      fitting : (v j : ℕ) → v < P .tasks → ltb 0 (P .rate (suc v) j) && leb (P .rate (suc v) j) (nth l (counterOn board slot v)) ≡ every (may-tests P slot first (nth t) v j)
+      fitting v j lv = test-same _ _
+          (λ h. let p = both (ltb 0 (P .rate (suc v) j)) (leb (P .rate (suc v) j) (nth l (counterOn board slot v))) h in test-cases (P .opens (suc v) slot)
+          (λ o. holds-every (may-tests P slot first (nth t) v j) (o, (p .0, (rw (is-free (suc v)) tt, (le→leb (P .rate (suc v) j) _ (omega (arith, left-open ls lv first (nth t) l lefts o, leb→le (P .rate (suc v) j) _ (p .1))), tt)))))
+          (λ x. absurd (omega (arith, ltb→lt 0 (P .rate (suc v) j) (p .0), leb→le (P .rate (suc v) j) _ (p .1), lefts .none-closed, ap (nth l) (counter-closed ls lv x .0)))))
+          (λ h. let p = every-holds (may-tests P slot first (nth t) v j) h in
+          make-both (ltb 0 (P .rate (suc v) j)) (leb (P .rate (suc v) j) (nth l (counterOn board slot v))) (p .1 .0)
+          (le→leb (P .rate (suc v) j) _ (omega (arith, left-open ls lv first (nth t) l lefts (p .0), leb→le (P .rate (suc v) j) _ (p .1 .1 .1 .0)))))

@@ -21,15 +21,16 @@ use Rattle.laws.proofs.SumLaws.{lt-or-ge}
 use Rattle.laws.proofs.TestLaws.{all-same, all-true}
 use Rattle.table.specs.Table.{cells}
 use Rattle.table.proofs.TableLaws.{done-same}
-use Rattle.rules.specs.Walk.{Rule, found, none, Answer, ended, stopped, limited}
+use Rattle.rules.specs.Walk.{Rule, found, none, spend, Answer, ended, stopped, limited}
 use Rattle.rules.specs.Limit.{allow, bgate, bnext, btryAll, bwalk}
 use Rattle.rules.specs.Rules.{values, settled, closed}
 use Rattle.rules.specs.Search.{ruleOf, walked}
-use Rattle.rules.proofs.Limit.{bwalk-limited}
-use Rattle.walk.specs.Machine.{End, Found, Nothing, Stopped, State, state, Onward, counterOn, rateOn, evenOn, coresOn, slotsOn, freeOn, permittedOn, floorOn, closesOn, idleLast, placed, tryFrom, closeThen, walkOn}
+use Rattle.rules.proofs.Limit.{bwalk-from}
+use Rattle.sets.specs.Sets.{has, without}
+use Rattle.walk.specs.Machine.{End, Found, Nothing, Stopped, State, state, Onward, counterOn, rateOn, evenOn, coresOn, slotsOn, setsOn, floorOn, closesOn, idleLast, placed, tryFrom, closeThen, walkOn}
 use Rattle.walk.specs.Ready.{Small, Ready, Lefts}
 use Rattle.walk.proofs.TurnLaws.{or-else-stays, skip, barred-by-B, stop, tried, back}
-use Rattle.walk.proofs.ReadyLaws.{closes-is, closed-within, permitted-tells, lefts-idle, lefts-put}
+use Rattle.walk.proofs.ReadyLaws.{Sets, sets-same, closes-is, closed-within, open-tells, lefts-idle, lefts-put, sets-idle, sets-put, sets-start}
 use Rattle.walk.proofs.ObeyLaws.{cost-one, closes-prefix, task-tried, idle-tried}
 
 -- what an end tells from cell c on, of n cells
@@ -106,24 +107,27 @@ module _ {b n c : ℕ} (lc : c < n) (t l : List ℕ) {t₁ l₁ : List ℕ} {s :
   below-none z = ap (λ x. bnext w x g) (sym (shows .answer) ∙ ap (λ e. toldAt e n (suc c) (s .table) (s .tries)) z)
 
 -- ---- where the walk stands
-pub record Stands (P : Instance) (first slot core : ℕ) (t l : List ℕ) : Type 0 where
+-- before the cell of a core
+pub record Before (P : Instance) (first slot core sets : ℕ) (t l : List ℕ) : Type 0 where
   pub first-is : first ≡ slot * P .cores
   pub slot-in : slot < P .slots
   pub core-in : core < P .cores
+  pub holds : Sets P slot core (first + core) (nth t) sets
   pub lefts : Lefts P (first + core) (nth t) l
   pub known : (d : ℕ) → d < first + core → nth t d ≤ P .tasks
   pub long : cells P ≤ length t
   pub wide : length l ≡ 32768
 
--- after a value in cell c
-pub record After (P : Instance) (c : ℕ) (t l : List ℕ) : Type 0 where
-  pub lefts : Lefts P c (nth t) l
-  pub known : (d : ℕ) → d < c → nth t d ≤ P .tasks
+-- after a value in it
+pub record After (P : Instance) (first slot core sets : ℕ) (t l : List ℕ) : Type 0 where
+  pub holds : Sets P slot (core + 1) (suc (first + core)) (nth t) sets
+  pub lefts : Lefts P (suc (first + core)) (nth t) l
+  pub known : (d : ℕ) → d < suc (first + core) → nth t d ≤ P .tasks
   pub long : cells P ≤ length t
   pub wide : length l ≡ 32768
 
 -- the cells of a slot are the table's
-cell-in : {P : Instance} {first slot core : ℕ} {t l : List ℕ} → Stands P first slot core t l → first + core < cells P
+cell-in : {P : Instance} {first slot core sets : ℕ} {t l : List ℕ} → Before P first slot core sets t l → first + core < cells P
 cell-in {P} {first} {slot} {core} s = omega (arith, s .first-is, mul-le-mul-right (P .cores) (s .slot-in))
 
 -- the values of a cell, each put behind the prefix p, with `rest` cells behind it
@@ -154,25 +158,25 @@ module _ (c : ℕ) (t t₀ : List ℕ) (et : take c t ≡ take c t₀) where
     none-closed = h .none-closed;
   }
 
-  -- and so are the tasks that may stand there
-  permitted-same : (board l : List ℕ) (first slot core v : ℕ) → first + core ≡ c → permittedOn board t l first slot core v ≡ permittedOn board t₀ l first slot core v
-  unfolding permittedOn freeOn
-  permitted-same board l first slot core v e = ap (λ x. ltb 0 (rateOn board v core) && (leb (rateOn board v core) (nth l (counterOn board slot v)) && (x && true)))
-      (all-same core _ _ (λ j lj. ap (λ x. not (eqb x (v + 1))) (cell-same (first + j) (omega arith))))
+  -- and so are the sets
+  holds-same : {P : Instance} {slot core sets : ℕ} → Sets P slot core c (nth t₀) sets → Sets P slot core c (nth t) sets
+  holds-same h = sets-same (λ d ld. sym (cell-same d ld)) h
 
 -- ---- the walk
 module _ {P : Instance} (small : Small P) (e b : ℕ) (board : List ℕ) (ready : Ready P e board) where
-  module _ {first slot core : ℕ} {t₀ l : List ℕ} (stands : Stands P first slot core t₀ l) (rest : ℕ) (next : Onward)
-      (onward : (t₁ l₁ : List ℕ) (u : ℕ) → After P (suc (first + core)) t₁ l₁ → u ≤ b
-      → Shows b (cells P) (suc (first + core)) t₁ l₁ (next t₁ l₁ u) (bwalk b (ruleOf e P) (values P) rest (take (suc (first + core)) t₁) u)) where
+  module _ {first slot core sets : ℕ} {t₀ l : List ℕ} (stands : Before P first slot core sets t₀ l) (rest : ℕ) (next : Onward)
+      (onward : (sets₁ : ℕ) (t₁ l₁ : List ℕ) (u : ℕ) → After P first slot core sets₁ t₁ l₁ → u ≤ b
+      → Shows b (cells P) (suc (first + core)) t₁ l₁ (next sets₁ t₁ l₁ u) (bwalk b (ruleOf e P) (values P) rest (take (suc (first + core)) t₁) u)) where
     -- the cell is in the table
     room : first + core < length t₀
     room = omega (arith, cell-in stands, stands .long)
 
     -- a value w in the cell: what is known after it
-    after : (t : List ℕ) → take (first + core) t ≡ take (first + core) t₀ → length t ≡ length t₀ → (w : ℕ) → w ≤ P .tasks → (l₁ : List ℕ) → length l₁ ≡ 32768
-        → Lefts P (first + core + 1) (nth (set t (first + core) w)) l₁ → After P (suc (first + core)) (set t (first + core) w) l₁
-    after t et el w lw l₁ wide lefts = record {
+    after : (t : List ℕ) → take (first + core) t ≡ take (first + core) t₀ → length t ≡ length t₀ → (w : ℕ) → w ≤ P .tasks → (sets₁ : ℕ)
+        → Sets P slot (core + 1) (suc (first + core)) (nth (set t (first + core) w)) sets₁ → (l₁ : List ℕ) → length l₁ ≡ 32768
+        → Lefts P (first + core + 1) (nth (set t (first + core) w)) l₁ → After P first slot core sets₁ (set t (first + core) w) l₁
+    after t et el w lw sets₁ holds l₁ wide lefts = record {
+      holds = holds;
       lefts = subst (λ c. Lefts P c (nth (set t (first + core) w)) l₁) (add-one (first + core)) lefts;
       known = λ d ld. elim (ℕ-discrete d (first + core)) [
         | yes q ↦ rw q (rw (getD-set-same t (first + core) w 0 (omega (arith, room, el))) lw)
@@ -183,28 +187,29 @@ module _ {P : Instance} (small : Small P) (e b : ℕ) (board : List ℕ) (ready 
     }
 
     -- what the walk below a value w tells
-    below : (t : List ℕ) → take (first + core) t ≡ take (first + core) t₀ → length t ≡ length t₀ → (w : ℕ) → w ≤ P .tasks → (l₁ : List ℕ) → length l₁ ≡ 32768
+    below : (t : List ℕ) → take (first + core) t ≡ take (first + core) t₀ → length t ≡ length t₀ → (w : ℕ) → w ≤ P .tasks → (sets₁ : ℕ)
+        → Sets P slot (core + 1) (suc (first + core)) (nth (set t (first + core) w)) sets₁ → (l₁ : List ℕ) → length l₁ ≡ 32768
         → Lefts P (first + core + 1) (nth (set t (first + core) w)) l₁ → (u : ℕ) → u ≤ b
-        → Shows b (cells P) (suc (first + core)) (set t (first + core) w) l₁ (next (set t (first + core) w) l₁ u)
+        → Shows b (cells P) (suc (first + core)) (set t (first + core) w) l₁ (next sets₁ (set t (first + core) w) l₁ u)
         (bwalk b (ruleOf e P) (values P) rest (take (first + core) t₀ ++ w ∷ []) u)
-    below t et el w lw l₁ wide lefts u lu =
-        subst (λ p. Shows b (cells P) (suc (first + core)) (set t (first + core) w) l₁ (next (set t (first + core) w) l₁ u) (bwalk b (ruleOf e P) (values P) rest p u))
+    below t et el w lw sets₁ holds l₁ wide lefts u lu =
+        subst (λ p. Shows b (cells P) (suc (first + core)) (set t (first + core) w) l₁ (next sets₁ (set t (first + core) w) l₁ u) (bwalk b (ruleOf e P) (values P) rest p u))
         (take-suc-set t (first + core) w (omega (arith, room, el)) ∙ ap (λ p. p ++ w ∷ []) et)
-        (onward (set t (first + core) w) l₁ u (after t et el w lw l₁ wide lefts) lu)
+        (onward sets₁ (set t (first + core) w) l₁ u (after t et el w lw sets₁ holds l₁ wide lefts) lu)
 
     -- idle, after the last task
     idle-shows : (t : List ℕ) (barred u : ℕ) → take (first + core) t ≡ take (first + core) t₀ → length t ≡ length t₀
         → ruleOf e P .tried (take (first + core) t₀) 0 ≡ eqb barred 0 → u ≤ b
-        → Shows b (cells P) (first + core) t₀ l (idleLast board b first slot core next t l barred u)
+        → Shows b (cells P) (first + core) t₀ l (idleLast board b first slot core sets next t l barred u)
         (btryAll (oneValue b (ruleOf e P) (values P) rest (take (first + core) t₀)) (0 ∷ []) u)
     unfolding idleLast toldAt
     idle-shows t barred u et el h lu = elim (ℕ-discrete barred 0) [
       | yes z ↦ elim (ℕ-discrete u b) [
         | yes q ↦ shows-same {s = state Stopped t l u} (rw (eq-eqb barred 0 z, eq-eqb u b q)) (ap (λ a. bnext 0 a ends) (one-stops P e b rest (take (first + core) t₀) 0 u (h ∙ eq-eqb barred 0 z) q))
             (record { answer = ap stopped q; prefix = et; long = el; most = lu; again = λ w. absurd (stopped-apart w) })
-        | no x ↦ shows-same {s = next (set t (first + core) 0) l (u + 1)} (rw (eq-eqb barred 0 z, ne-eqb u b x)) (ap (λ a. bnext 0 a ends) (one-goes P e b rest (take (first + core) t₀) 0 u (h ∙ eq-eqb barred 0 z) x lu))
-            (let r = next (set t (first + core) 0) l (u + 1) in
-            let s = below t et el 0 (omega arith) l (stands .wide) (lefts-idle small ready (stands .first-is) (stands .slot-in) (stands .core-in) t l (omega (arith, room, el)) (lefts-same (first + core) t t₀ et P l (stands .lefts))) (u + 1) (omega arith) in
+        | no x ↦ shows-same {s = next sets (set t (first + core) 0) l (u + 1)} (rw (eq-eqb barred 0 z, ne-eqb u b x)) (ap (λ a. bnext 0 a ends) (one-goes P e b rest (take (first + core) t₀) 0 u (h ∙ eq-eqb barred 0 z) x lu))
+            (let r = next sets (set t (first + core) 0) l (u + 1) in
+            let s = below t et el 0 (omega arith) sets (sets-idle small ready (stands .first-is) (stands .slot-in) (stands .core-in) t (omega (arith, room, el)) (holds-same (first + core) t t₀ et (stands .holds))) l (stands .wide) (lefts-idle small ready (stands .first-is) (stands .slot-in) (stands .core-in) t l (omega (arith, room, el)) (lefts-same (first + core) t t₀ et P l (stands .lefts))) (u + 1) (omega arith) in
             end-cases (r .end)
             (λ w. record {
               answer = ap (λ y. toldAt y (cells P) (first + core) (r .table) (r .tries)) w
@@ -225,11 +230,11 @@ module _ {P : Instance} (small : Small P) (e b : ℕ) (board : List ℕ) (ready 
 
     -- how many of the tasks before v may stand there and bar idle
     barring : ℕ → ℕ
-    barring v = sum v (λ w. gate (permittedOn board t₀ l first slot core w) (evenOn board w))
+    barring v = sum v (λ w. gate (has sets w core) (evenOn board w))
 
     -- what is still to be tried of the cell's values, from v + 1 on, tells what is left of the rule's values
     Tells : ℕ → ℕ → List ℕ → ℕ → ℕ → Type 0
-    Tells j v t barred u = Shows b (cells P) (first + core) t₀ l (tryFrom board b first slot core next j (floorOn board t₀ first core) t l v barred u)
+    Tells j v t barred u = Shows b (cells P) (first + core) t₀ l (tryFrom board b first slot core sets next j (floorOn board t₀ first core) t l v barred u)
         (btryAll (oneValue b (ruleOf e P) (values P) rest (take (first + core) t₀)) (upTo j (suc v)) u)
 
     -- one task
@@ -239,24 +244,20 @@ module _ {P : Instance} (small : Small P) (e b : ℕ) (board : List ℕ) (ready 
       others : ℕ → Answer
       others = btryAll (oneValue b (ruleOf e P) (values P) rest (take (first + core) t₀)) (upTo j (suc (suc v)))
 
-      -- whether it may stand there
-      may : permittedOn board t l first slot core v ≡ permittedOn board t₀ l first slot core v
-      may = permitted-same (first + core) t t₀ et board l first slot core v refl
-
       -- whether it is tried
-      is-tried : ruleOf e P .tried (take (first + core) t₀) (suc v) ≡ permittedOn board t₀ l first slot core v && leb (floorOn board t₀ first core) (v + 1)
-      is-tried = task-tried small board (stands .first-is) (stands .slot-in) (stands .core-in) t₀ l (omega (arith, room)) (stands .lefts) e ready v lv
+      is-tried : ruleOf e P .tried (take (first + core) t₀) (suc v) ≡ has sets v core && leb (floorOn board t₀ first core) (v + 1)
+      is-tried = task-tried small board (stands .first-is) (stands .slot-in) (stands .core-in) t₀ (omega (arith, room)) (stands .holds) e ready v lv
 
       -- it may not stand there
-      not-there : permittedOn board t₀ l first slot core v ≡ false → Tells (suc j) v t barred u
+      not-there : has sets v core ≡ false → Tells (suc j) v t barred u
       unfolding Tells barring sum gate others
-      not-there p = shows-same {s = tryFrom board b first slot core next j (floorOn board t₀ first core) t l (suc v) barred u}
-          (skip board b first slot core next j (floorOn board t₀ first core) t l v barred u (may ∙ p)
-          ∙ ap (λ x. tryFrom board b first slot core next j (floorOn board t₀ first core) t l x barred u) (add-one v))
+      not-there p = shows-same {s = tryFrom board b first slot core sets next j (floorOn board t₀ first core) t l (suc v) barred u}
+          (skip board b first slot core sets next j (floorOn board t₀ first core) t l v barred u p
+          ∙ ap (λ x. tryFrom board b first slot core sets next j (floorOn board t₀ first core) t l x barred u) (add-one v))
           (ap (λ a. bnext (suc v) a others) (one-skips P e b rest (take (first + core) t₀) (suc v) u (is-tried ∙ ap (λ x. x && leb (floorOn board t₀ first core) (v + 1)) p)))
           (ih t barred u et el (hb ∙ sym (rw p (add-zero _))) lu)
 
-      module _ (p : permittedOn board t₀ l first slot core v ≡ true) where
+      module _ (p : has sets v core ≡ true) where
         -- one more that may bar idle
         one-more : barred + evenOn board v ≡ barring (suc v)
         unfolding barring sum gate
@@ -265,9 +266,9 @@ module _ {P : Instance} (small : Small P) (e b : ℕ) (board : List ℕ) (ready 
         -- rule B bars it
         by-B : leb (floorOn board t₀ first core) (v + 1) ≡ false → Tells (suc j) v t barred u
         unfolding Tells others
-        by-B q = shows-same {s = tryFrom board b first slot core next j (floorOn board t₀ first core) t l (suc v) (barred + evenOn board v) u}
-            (barred-by-B board b first slot core next j (floorOn board t₀ first core) t l v barred u (may ∙ p) (leb-false _ _ q)
-            ∙ ap (λ x. tryFrom board b first slot core next j (floorOn board t₀ first core) t l x (barred + evenOn board v) u) (add-one v))
+        by-B q = shows-same {s = tryFrom board b first slot core sets next j (floorOn board t₀ first core) t l (suc v) (barred + evenOn board v) u}
+            (barred-by-B board b first slot core sets next j (floorOn board t₀ first core) t l v barred u p (leb-false _ _ q)
+            ∙ ap (λ x. tryFrom board b first slot core sets next j (floorOn board t₀ first core) t l x (barred + evenOn board v) u) (add-one v))
             (ap (λ a. bnext (suc v) a others) (one-skips P e b rest (take (first + core) t₀) (suc v) u (is-tried ∙ rw (p, q))))
             (ih t (barred + evenOn board v) u et el one-more lu)
 
@@ -279,7 +280,7 @@ module _ {P : Instance} (small : Small P) (e b : ℕ) (board : List ℕ) (ready 
           out : u ≡ b → Tells (suc j) v t barred u
           unfolding Tells others toldAt
           out z = shows-same {s = state Stopped t l u}
-              (stop board b first slot core next j (floorOn board t₀ first core) t l v barred u (may ∙ p) (leb-true _ _ q) z)
+              (stop board b first slot core sets next j (floorOn board t₀ first core) t l v barred u p (leb-true _ _ q) z)
               (ap (λ a. bnext (suc v) a others) (one-stops P e b rest (take (first + core) t₀) (suc v) u yes-tried z))
               (record { answer = ap stopped z; prefix = et; long = el; most = lu; again = λ w. absurd (stopped-apart w) })
 
@@ -289,19 +290,23 @@ module _ {P : Instance} (small : Small P) (e b : ℕ) (board : List ℕ) (ready 
             l₁ = set l (counterOn board slot v) (nth l (counterOn board slot v) - rateOn board v core)
 
             r : State
-            r = next (set t (first + core) (v + 1)) l₁ (u + 1)
+            r = next (without sets v) (set t (first + core) (v + 1)) l₁ (u + 1)
 
             -- what the walk below it tells
             tells-below : Shows b (cells P) (suc (first + core)) (set t (first + core) (v + 1)) l₁ r
                 (bwalk b (ruleOf e P) (values P) rest (take (first + core) t₀ ++ (v + 1) ∷ []) (u + 1))
             unfolding l₁ r
-            tells-below = below t et el (v + 1) (omega arith) l₁ (length-set l _ _ ∙ stands .wide)
+            tells-below = below t et el (v + 1) (omega arith) (without sets v)
+                (sets-put small ready (stands .first-is) (stands .slot-in) (stands .core-in) t (omega (arith, room, el)) holds v (omega (arith, small .few-tasks))) l₁ (length-set l _ _ ∙ stands .wide)
                 (lefts-put small ready (stands .first-is) (stands .slot-in) (stands .core-in) t l (omega (arith, room, el)) (stands .wide) lefts v lv
-                (permitted-tells small ready (stands .first-is) (stands .slot-in) (stands .core-in) t l lefts v lv (rw (may ∙ p) tt) .0))
+                (open-tells small ready (stands .first-is) (stands .slot-in) (stands .core-in) (nth t) holds v lv p))
                 (u + 1) (omega arith)
               where
                 lefts : Lefts P (first + core) (nth t) l
                 lefts = lefts-same (first + core) t t₀ et P l (stands .lefts)
+
+                holds : Sets P slot core (first + core) (nth t) sets
+                holds = holds-same (first + core) t t₀ et (stands .holds)
 
             -- the counter is given back what it was
             given-back : r .end ≡ Nothing → set (r .left) (counterOn board slot v) (nth l (counterOn board slot v)) ≡ l
@@ -327,14 +332,14 @@ module _ {P : Instance} (small : Small P) (e b : ℕ) (board : List ℕ) (ready 
             in-cell : Tells (suc j) v t barred u
             unfolding Tells others l₁ r placed
             in-cell = end-cases (r .end)
-                (λ w. shows-same {s = tryFrom board b first slot core next j (floorOn board t₀ first core) (r .table) l (suc v) (barred + evenOn board v) (r .tries)}
-                (back board b first slot core next j (floorOn board t₀ first core) t l v barred u (may ∙ p) (leb-true _ _ q) z r refl w
-                ∙ (λ i. tryFrom board b first slot core next j (floorOn board t₀ first core) (r .table) (given-back w i) (add-one v i) (barred + evenOn board v) (r .tries)))
+                (λ w. shows-same {s = tryFrom board b first slot core sets next j (floorOn board t₀ first core) (r .table) l (suc v) (barred + evenOn board v) (r .tries)}
+                (back board b first slot core sets next j (floorOn board t₀ first core) t l v barred u p (leb-true _ _ q) z r refl w
+                ∙ (λ i. tryFrom board b first slot core sets next j (floorOn board t₀ first core) (r .table) (given-back w i) (add-one v i) (barred + evenOn board v) (r .tries)))
                 (ap (λ a. bnext (suc v) a others) value-is ∙ below-none (cell-in stands) t₀ l tells-below cell-is prefix-is long-is room others w)
                 (ih (r .table) (barred + evenOn board v) (r .tries) (before-prefix (cell-in stands) t₀ l tells-below cell-is prefix-is long-is room others)
                 (tells-below .long ∙ long-is) one-more (tells-below .most)))
                 (λ w. shows-same {s = r}
-                (tried board b first slot core next j (floorOn board t₀ first core) t l v barred u (may ∙ p) (leb-true _ _ q) z r refl ∙ or-else-stays (r .end) r _ w)
+                (tried board b first slot core sets next j (floorOn board t₀ first core) t l v barred u p (leb-true _ _ q) z r refl ∙ or-else-stays (r .end) r _ w)
                 (ap (λ a. bnext (suc v) a others) value-is)
                 (below-ended (cell-in stands) t₀ l tells-below cell-is prefix-is long-is room others w))
 
@@ -342,9 +347,9 @@ module _ {P : Instance} (small : Small P) (e b : ℕ) (board : List ℕ) (ready 
           one-tried = elim (ℕ-discrete u b) [ yes z ↦ out z | no x ↦ in-cell x ]
 
       one-task : Tells (suc j) v t barred u
-      one-task = go (permittedOn board t₀ l first slot core v) refl (leb (floorOn board t₀ first core) (v + 1)) refl
+      one-task = go (has sets v core) refl (leb (floorOn board t₀ first core) (v + 1)) refl
         where
-          go : (p : Bool) → permittedOn board t₀ l first slot core v ≡ p → (q : Bool) → leb (floorOn board t₀ first core) (v + 1) ≡ q → Tells (suc j) v t barred u
+          go : (p : Bool) → has sets v core ≡ p → (q : Bool) → leb (floorOn board t₀ first core) (v + 1) ≡ q → Tells (suc j) v t barred u
           go false p q h = not-there p
           go true p false h = by-B p h
           go true p true h = one-tried p h
@@ -354,8 +359,8 @@ module _ {P : Instance} (small : Small P) (e b : ℕ) (board : List ℕ) (ready 
         → barred ≡ barring v → u ≤ b → Tells j v t barred u
     unfolding Tells tryFrom barring
     values-tell zero v t barred u ev et el hb lu = idle-shows t barred u et el
-        (idle-tried small board (stands .first-is) (stands .slot-in) (stands .core-in) t₀ l (omega (arith, room)) (stands .lefts) e ready (stands .known)
-        ∙ ap (λ x. eqb x 0) (ap (λ n. sum n (λ w. gate (permittedOn board t₀ l first slot core w) (evenOn board w))) (ready .tasks ∙ omega arith) ∙ sym hb)) lu
+        (idle-tried small board (stands .first-is) (stands .slot-in) (stands .core-in) t₀ (omega (arith, room)) (stands .holds) e ready (stands .known)
+        ∙ ap (λ x. eqb x 0) (ap (λ n. sum n (λ w. gate (has sets w core) (evenOn board w))) (ready .tasks ∙ omega arith) ∙ sym hb)) lu
     values-tell (suc j) v t barred u ev et el hb lu = one-task j v (omega arith) t barred u et el hb lu (λ t′ barred′ u′. values-tell j (suc v) t′ barred′ u′ (omega arith))
 
     -- the whole cell
@@ -381,27 +386,28 @@ module _ {P : Instance} (small : Small P) (e b : ℕ) (board : List ℕ) (ready 
 
   -- from a cell with k cells left, this one among them, the arrays' walk tells what the rule's values do
   Goes : ℕ → Type 0
-  Goes k = (first slot core : ℕ) (t l : List ℕ) → Stands P first slot core t l → (u : ℕ) → u ≤ b → k + (first + core) ≡ cells P
-      → Shows b (cells P) (first + core) t l (walkOn k board b first slot core t l u) (btryAll (oneValue b (ruleOf e P) (values P) (pred k) (take (first + core) t)) (values P) u)
+  Goes k = (first slot core sets : ℕ) (t l : List ℕ) → Before P first slot core sets t l → (u : ℕ) → u ≤ b → k + (first + core) ≡ cells P
+      → Shows b (cells P) (first + core) t l (walkOn k board b first slot core sets t l u) (btryAll (oneValue b (ruleOf e P) (values P) (pred k) (take (first + core) t)) (values P) u)
 
   module _ (rest : ℕ) (goes : Goes rest) {first slot core : ℕ} (ef : first ≡ slot * P .cores) (ls : slot < P .slots) (lc : core < P .cores)
-      (er : rest + suc (first + core) ≡ cells P) (t l : List ℕ) (after : After P (suc (first + core)) t l) (u : ℕ) (lu : u ≤ b) where
+      (er : rest + suc (first + core) ≡ cells P) (sets : ℕ) (t l : List ℕ) (after : After P first slot core sets t l) (u : ℕ) (lu : u ≤ b) where
     -- what closes the cell is told by the rule
     closes-at : ruleOf e P .closes (take (suc (first + core)) t) ≡ closed P (suc (first + core)) (nth t)
     closes-at = closes-prefix P e (suc (first + core)) t (omega (arith, after .long))
 
     -- the next cell, of core `core′` in the slot that begins at `first′`, is cell c
-    next-cell : (c first′ slot′ core′ : ℕ) → c ≡ first′ + core′ → c ≡ suc (first + core) → first′ ≡ slot′ * P .cores → slot′ < P .slots → core′ < P .cores → c < cells P
+    next-cell : (c first′ slot′ core′ sets′ : ℕ) → Sets P slot′ core′ (suc (first + core)) (nth t) sets′ → c ≡ first′ + core′ → c ≡ suc (first + core) → first′ ≡ slot′ * P .cores → slot′ < P .slots → core′ < P .cores → c < cells P
         → ruleOf e P .closes (take (suc (first + core)) t) ≡ true
-        → Shows b (cells P) (suc (first + core)) t l (walkOn rest board b first′ slot′ core′ t l u) (bwalk b (ruleOf e P) (values P) rest (take (suc (first + core)) t) u)
+        → Shows b (cells P) (suc (first + core)) t l (walkOn rest board b first′ slot′ core′ sets′ t l u) (bwalk b (ruleOf e P) (values P) rest (take (suc (first + core)) t) u)
     unfolding Goes
-    next-cell c first′ slot′ core′ ec es ef′ ls′ lc′ lt h = go rest goes er
+    next-cell c first′ slot′ core′ sets′ holds ec es ef′ ls′ lc′ lt h = go rest goes er
       where
-        stands : Stands P first′ slot′ core′ t l
+        stands : Before P first′ slot′ core′ sets′ t l
         stands = record {
           first-is = ef′;
           slot-in = ls′;
           core-in = lc′;
+          holds = subst (λ x. Sets P slot′ core′ x (nth t) sets′) (sym es ∙ ec) holds;
           lefts = subst (λ x. Lefts P x (nth t) l) (sym es ∙ ec) (after .lefts);
           known = λ d ld. after .known d (omega arith);
           long = after .long;
@@ -409,18 +415,18 @@ module _ {P : Instance} (small : Small P) (e b : ℕ) (board : List ℕ) (ready 
         }
 
         go : (k : ℕ) → Goes k → k + suc (first + core) ≡ cells P
-            → Shows b (cells P) (suc (first + core)) t l (walkOn k board b first′ slot′ core′ t l u) (bwalk b (ruleOf e P) (values P) k (take (suc (first + core)) t) u)
+            → Shows b (cells P) (suc (first + core)) t l (walkOn k board b first′ slot′ core′ sets′ t l u) (bwalk b (ruleOf e P) (values P) k (take (suc (first + core)) t) u)
         go zero g ek = absurd (omega arith)
         go (suc k) g ek = shows-same refl (bwalk-in k (take (suc (first + core)) t) u h)
-            (subst (λ x. Shows b (cells P) x t l (walkOn (suc k) board b first′ slot′ core′ t l u) (btryAll (oneValue b (ruleOf e P) (values P) k (take x t)) (values P) u))
-            (sym ec ∙ es) (g first′ slot′ core′ t l stands u lu (omega arith)))
+            (subst (λ x. Shows b (cells P) x t l (walkOn (suc k) board b first′ slot′ core′ sets′ t l u) (btryAll (oneValue b (ruleOf e P) (values P) k (take x t)) (values P) u))
+            (sym ec ∙ es) (g first′ slot′ core′ sets′ t l stands u lu (omega arith)))
 
     -- one more core in the slot
-    next-core : core + 1 < P .cores → Shows b (cells P) (suc (first + core)) t l (closeThen board (walkOn rest board b) first slot (core + 1) t l u)
+    next-core : core + 1 < P .cores → Shows b (cells P) (suc (first + core)) t l (closeThen board (walkOn rest board b) first slot (core + 1) sets t l u)
         (bwalk b (ruleOf e P) (values P) rest (take (suc (first + core)) t) u)
     unfolding closeThen
-    next-core h = shows-same {s = walkOn rest board b first slot (core + 1) t l u} (rw (lt-ltb (core + 1) (coresOn board) (rw (ready .cores) h))) refl
-        (next-cell (first + (core + 1)) first slot (core + 1) refl (omega arith) ef ls h (omega (arith, ef, mul-le-mul-right (P .cores) ls))
+    next-core h = shows-same {s = walkOn rest board b first slot (core + 1) sets t l u} (rw (lt-ltb (core + 1) (coresOn board) (rw (ready .cores) h))) refl
+        (next-cell (first + (core + 1)) first slot (core + 1) sets (after .holds) refl (omega arith) ef ls h (omega (arith, ef, mul-le-mul-right (P .cores) ls))
         (closes-at ∙ ap (λ c. closed P c (nth t)) (omega arith) ∙ closed-within small ready slot (core + 1) (omega arith) h (nth t)))
 
     -- the slot is at its end
@@ -428,20 +434,20 @@ module _ {P : Instance} (small : Small P) (e b : ℕ) (board : List ℕ) (ready 
       slot-ends : closesOn board l slot ≡ ruleOf e P .closes (take (suc (first + core)) t)
       slot-ends = closes-is small ready ls (suc (first + core)) (nth t) l (after .lefts) (omega (arith, ef)) ∙ sym closes-at
 
-      starved-slot : closesOn board l slot ≡ false → Shows b (cells P) (suc (first + core)) t l (closeThen board (walkOn rest board b) first slot (core + 1) t l u)
+      starved-slot : closesOn board l slot ≡ false → Shows b (cells P) (suc (first + core)) t l (closeThen board (walkOn rest board b) first slot (core + 1) sets t l u)
           (bwalk b (ruleOf e P) (values P) rest (take (suc (first + core)) t) u)
       unfolding closeThen toldAt
       starved-slot z = shows-same {s = state Nothing t l u} (rw (le-ltb (core + 1) (coresOn board) (rw (ready .cores) h), z))
           (bwalk-shut rest (take (suc (first + core)) t) u (sym slot-ends ∙ z))
           (record { answer = refl; prefix = refl; long = refl; most = lu; again = λ _. refl })
 
-      closed-slot : closesOn board l slot ≡ true → Shows b (cells P) (suc (first + core)) t l (closeThen board (walkOn rest board b) first slot (core + 1) t l u)
+      closed-slot : closesOn board l slot ≡ true → Shows b (cells P) (suc (first + core)) t l (closeThen board (walkOn rest board b) first slot (core + 1) sets t l u)
           (bwalk b (ruleOf e P) (values P) rest (take (suc (first + core)) t) u)
       unfolding closeThen toldAt
       closed-slot z = ⊎-elim
-          (λ more. shows-same {s = walkOn rest board b (first + (core + 1)) (slot + 1) 0 t l u}
+          (λ more. shows-same {s = walkOn rest board b (first + (core + 1)) (slot + 1) 0 (setsOn board l (slot + 1)) t l u}
           (rw (le-ltb (core + 1) (coresOn board) (rw (ready .cores) h), z, lt-ltb (slot + 1) (slotsOn board) (rw (ready .slots) more))) refl
-          (next-cell (first + (core + 1)) (first + (core + 1)) (slot + 1) 0 (omega arith) (omega arith) (omega (arith, ef)) more (omega arith)
+          (next-cell (first + (core + 1)) (first + (core + 1)) (slot + 1) 0 (setsOn board l (slot + 1)) (sets-start small ready (omega (arith, ef)) more t l (after .lefts)) (omega arith) (omega arith) (omega (arith, ef)) more (omega arith)
           (omega (arith, ef, mul-le-mul-right (P .cores) more)) (sym slot-ends ∙ z)))
           (λ none. let last : rest ≡ 0 = omega (arith, ef, mul-le-mul-right (P .cores) none) in
           let over : cells P - suc (first + core) ≡ 0 = omega arith in
@@ -458,11 +464,11 @@ module _ {P : Instance} (small : Small P) (e b : ℕ) (board : List ℕ) (ready 
           (lt-or-ge (slot + 1) (P .slots))
 
     -- after a cell
-    closes-tell : Shows b (cells P) (suc (first + core)) t l (closeThen board (walkOn rest board b) first slot (core + 1) t l u)
+    closes-tell : Shows b (cells P) (suc (first + core)) t l (closeThen board (walkOn rest board b) first slot (core + 1) sets t l u)
         (bwalk b (ruleOf e P) (values P) rest (take (suc (first + core)) t) u)
     closes-tell = ⊎-elim next-core (λ h. go h (closesOn board l slot) refl) (lt-or-ge (core + 1) (P .cores))
       where
-        go : P .cores ≤ core + 1 → (x : Bool) → closesOn board l slot ≡ x → Shows b (cells P) (suc (first + core)) t l (closeThen board (walkOn rest board b) first slot (core + 1) t l u)
+        go : P .cores ≤ core + 1 → (x : Bool) → closesOn board l slot ≡ x → Shows b (cells P) (suc (first + core)) t l (closeThen board (walkOn rest board b) first slot (core + 1) sets t l u)
             (bwalk b (ruleOf e P) (values P) rest (take (suc (first + core)) t) u)
         go h false z = starved-slot h z
         go h true z = closed-slot h z
@@ -470,12 +476,12 @@ module _ {P : Instance} (small : Small P) (e b : ℕ) (board : List ℕ) (ready 
   -- the walk from any cell
   walk-goes : (k : ℕ) → Goes k
   unfolding Goes walkOn Tells
-  walk-goes zero first slot core t l stands u lu ek = absurd (omega (arith, cell-in stands))
-  walk-goes (suc rest) first slot core t l stands u lu ek =
-      shows-same {s = tryFrom board b first slot core (closeThen board (walkOn rest board b) first slot (core + 1)) (P .tasks) (floorOn board t first core) t l 0 0 u}
-      (ap (λ n. tryFrom board b first slot core (closeThen board (walkOn rest board b) first slot (core + 1)) n (floorOn board t first core) t l 0 0 u) (ready .tasks)) refl
+  walk-goes zero first slot core sets t l stands u lu ek = absurd (omega (arith, cell-in stands))
+  walk-goes (suc rest) first slot core sets t l stands u lu ek =
+      shows-same {s = tryFrom board b first slot core sets (closeThen board (walkOn rest board b) first slot (core + 1)) (P .tasks) (floorOn board t first core) t l 0 0 u}
+      (ap (λ n. tryFrom board b first slot core sets (closeThen board (walkOn rest board b) first slot (core + 1)) n (floorOn board t first core) t l 0 0 u) (ready .tasks)) refl
       (cell-tells stands rest (closeThen board (walkOn rest board b) first slot (core + 1))
-      (λ t₁ l₁ u₁ after lu₁. closes-tell rest (walk-goes rest) (stands .first-is) (stands .slot-in) (stands .core-in) (omega arith) t₁ l₁ after u₁ lu₁) u lu)
+      (λ sets₁ t₁ l₁ u₁ after lu₁. closes-tell rest (walk-goes rest) (stands .first-is) (stands .slot-in) (stands .core-in) (omega arith) sets₁ t₁ l₁ after u₁ lu₁) u lu)
 
   -- before the first cell no job ends
   closed-start : (f : ℕ → ℕ) → closed P 0 f ≡ true
@@ -483,26 +489,27 @@ module _ {P : Instance} (small : Small P) (e b : ℕ) (board : List ℕ) (ready 
   closed-start f = all-true (P .tasks) _ (λ i li. all-true (P .jobs (suc i)) _ (λ k lk.
       rw (ne-eqb (suc (jobEnd P (suc i) k) * P .cores) 0 (λ z. omega (arith, mul-pos {m = suc (jobEnd P (suc i) k)} {n = P .cores} (omega arith) (small .regular .some-core))))))
 
-  -- the walk over the whole table is the engine's under the limit
-  pub walk-limited : (t l : List ℕ) → Lefts P 0 (nth t) l → cells P ≤ length t → length l ≡ 32768
-      → Shows b (cells P) 0 t l (walkOn (cells P) board b 0 0 0 t l 0) (limited b (walked e P))
+  -- the walk over the whole table, with u tries counted before it, is the engine's under the limit
+  pub walk-limited : (t l : List ℕ) → Lefts P 0 (nth t) l → cells P ≤ length t → length l ≡ 32768 → (u : ℕ) → u ≤ b
+      → Shows b (cells P) 0 t l (walkOn (cells P) board b 0 0 0 (setsOn board l 0) t l u) (limited b (spend u (walked e P)))
   unfolding Goes
-  walk-limited t l lefts long wide = shows-same refl (sym (bwalk-limited b (ruleOf e P) (values P) (cells P) [])) (go (cells P) (omega arith) some)
+  walk-limited t l lefts long wide u lu = shows-same refl (sym (bwalk-from b (ruleOf e P) (values P) (cells P) [] u lu)) (go (cells P) (omega arith) some)
     where
       some : 0 < cells P
       some = mul-pos (small .regular .some-slot) (small .regular .some-core)
 
-      stands : Stands P 0 0 0 t l
+      stands : Before P 0 0 0 (setsOn board l 0) t l
       stands = record {
         first-is = omega arith;
         slot-in = small .regular .some-slot;
         core-in = small .regular .some-core;
+        holds = sets-start small ready (omega arith) (small .regular .some-slot) t l lefts;
         lefts = lefts;
         known = λ d ld. absurd (omega arith);
         long = long;
         wide = wide;
       }
 
-      go : (k : ℕ) → k + (0 + 0) ≡ cells P → 0 < k → Shows b (cells P) 0 t l (walkOn k board b 0 0 0 t l 0) (bwalk b (ruleOf e P) (values P) k [] 0)
+      go : (k : ℕ) → k + (0 + 0) ≡ cells P → 0 < k → Shows b (cells P) 0 t l (walkOn k board b 0 0 0 (setsOn board l 0) t l u) (bwalk b (ruleOf e P) (values P) k [] u)
       go zero ek pos = absurd (omega arith)
-      go (suc k) ek pos = shows-same refl (bwalk-in k [] 0 (closes-prefix P e 0 t (omega arith) ∙ closed-start (nth t))) (walk-goes (suc k) 0 0 0 t l stands 0 (omega arith) ek)
+      go (suc k) ek pos = shows-same refl (bwalk-in k [] u (closes-prefix P e 0 t (omega arith) ∙ closed-start (nth t))) (walk-goes (suc k) 0 0 0 (setsOn board l 0) t l stands u lu ek)

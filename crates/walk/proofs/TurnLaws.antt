@@ -1,44 +1,46 @@
 -- The walk on its arrays, one turn of its loop at a time: what is still to be tried gives what the whole walk gives.
 -- Assumes nothing.
-use Prim.Native.Nat.{ℕ, suc, _+_, _*_, _-_, _%_, _≤_, _<_}
+use Prim.Native.Nat.{ℕ, zero, suc, _+_, _*_, _-_, _/_, _%_, _^_, _≤_, _<_}
 use native.Mathlib.Omega.{arith}
-use native.Mathlib.Nat.{add-zero, mul-le-mul-right}
+use native.Mathlib.Nat.{add-zero, add-suc, zero-add, mul-le-mul-right}
+use native.Mathlib.Decide.{ℕ-discrete}
+use lib.Dec.{eqb}
+use Rattle.laws.proofs.SumLaws.{lt-or-ge}
 use mathlib.Core.Path.{_≡_, refl, sym, ap, subst, transport, _∙_}
-use mathlib.Core.Logic.{_≢_}
-use mathlib.Core.Bool.{true, false}
+use mathlib.Core.Logic.{_≢_, inl, inr}
+use mathlib.Core.Bool.{Bool, true, false, not, _&&_}
 use mathlib.Core.List.{List}
 use borrow.Author.Tests.{lt-ltb, le-ltb, le-leb, lt-leb, eq-eqb, ne-eqb}
 use lib.ListN.{set}
 use Rattle.laws.specs.Lists.{nth}
-use Rattle.walk.specs.Machine.{End, Found, Nothing, Stopped, packed, State, state, Onward, orElse, counterOn, rateOn, evenOn, tasksOn, coresOn, slotsOn, cellsOn, permittedOn, floorOn, closesOn, idleLast, placed, tryFrom, closeThen, walkOn, Fits, Leaves, Ran, Closed}
+use lib.Count.{trailing-of-zero}
+use Rattle.sets.specs.Sets.{has, ofCore, lowest, without, Alone}
+use Rattle.sets.proofs.SetLaws.{none-has, of-core-has, of-core-alone, of-core-lt, without-has, without-alone, without-lt, lowest-in, lowest-first}
+use Rattle.walk.proofs.MachineLaws.{sets-none}
+use Rattle.walk.specs.Machine.{End, Found, Nothing, Stopped, packed, State, state, Onward, orElse, counterOn, rateOn, evenOn, tasksOn, coresOn, slotsOn, cellsOn, setsOn, floorOn, closesOn, idleLast, placed, tryFrom, closeThen, walkOn, Fits, Stands, firstOn, cellsLeft, full, Leaves, Ran, Closed}
 
 -- ---- where the walk stands
-module _ {board : List ℕ} {first slot : ℕ} (fits : Fits board first slot) where
+module _ {board : List ℕ} (place : ℕ) (fits : Fits board (place / 4)) where
   -- the slot's cells are among the table's
-  slot-cells : first + coresOn board ≤ cellsOn board
-  slot-cells = omega (arith, fits .first-is, mul-le-mul-right (coresOn board) (fits .slot-in))
+  pub slot-cells : firstOn board place + coresOn board ≤ cellsOn board
+  slot-cells = omega (arith, mul-le-mul-right (coresOn board) (fits .slot-in))
 
   -- and the table's are 4096 at most
-  pub in-table : (core : ℕ) → core < coresOn board → first + core < 4096
-  in-table core l = omega (arith, slot-cells, mul-le-mul-right (coresOn board) (fits .slots))
+  pub in-table : place % 4 < coresOn board → firstOn board place + place % 4 < 4096
+  in-table l = omega (arith, slot-cells, mul-le-mul-right (coresOn board) (fits .slots), fits .cores)
 
-  -- up to the slot's end
-  pub upto-table : (core : ℕ) → core ≤ coresOn board → first + core ≤ 4096
-  upto-table core l = omega (arith, slot-cells, mul-le-mul-right (coresOn board) (fits .slots))
+-- the first cell of a slot, with the number of cores as it was read
+module _ (board : List ℕ) (place : ℕ) {m : ℕ} (e : m ≡ coresOn board) where
+  pub first-at : place / 4 * m ≡ firstOn board place
+  first-at = ap (λ x. place / 4 * x) e
 
-  -- the cells left
-  pub in-cells : (core : ℕ) → core < coresOn board → first + core < cellsOn board
-  in-cells core l = omega (arith, slot-cells)
+  -- a cell of the slot is in the table
+  pub cell-in : Fits board (place / 4) → place % 4 < coresOn board → place / 4 * m + place % 4 < 4096
+  cell-in fits l = omega (arith, first-at, in-table place fits l)
 
-  -- the next slot
-  pub next-slot : (core : ℕ) → coresOn board ≤ core → core ≤ coresOn board → slot + 1 < slotsOn board → Fits board (first + core) (slot + 1)
-  next-slot core l m h = record {
-    tasks = fits .tasks;
-    cores = fits .cores;
-    slots = fits .slots;
-    first-is = omega (arith, fits .first-is);
-    slot-in = h;
-  }
+-- a test does not pass and fail
+apart : _≡_ {A = Bool} true false → ⊥
+apart e = let y : _≡_ {A = ℕ} 0 1 = cc in omega arith
 
 -- a walk that has ended stays as it is
 pub or-else-stays : (e : End) (r : State) (k : State → State) → (e ≡ Nothing → ⊥) → orElse e r k ≡ r
@@ -82,198 +84,359 @@ told : {limit : ℕ} (e : End) (t l : List ℕ) (u : ℕ) → u ≤ limit → Le
 told e t l u m = record { answer = refl; table = refl; left = refl; most = m }
 
 -- ---- one value
-module _ (board : List ℕ) (limit first slot core : ℕ) (next : Onward) (j floor : ℕ) (t l : List ℕ) (v barred u : ℕ) where
-  -- it is not permitted
-  pub skip : permittedOn board t l first slot core v ≡ false
-      → tryFrom board limit first slot core next (suc j) floor t l v barred u ≡ tryFrom board limit first slot core next j floor t l (v + 1) barred u
+module _ (board : List ℕ) (limit first slot core sets : ℕ) (next : Onward) (j floor : ℕ) (t l : List ℕ) (v barred u : ℕ) where
+  -- it may not stand there
+  pub skip : has sets v core ≡ false
+      → tryFrom board limit first slot core sets next (suc j) floor t l v barred u ≡ tryFrom board limit first slot core sets next j floor t l (v + 1) barred u
   unfolding tryFrom
   skip h = rw h
 
-  module _ (p : permittedOn board t l first slot core v ≡ true) where
+  module _ (p : has sets v core ≡ true) where
     -- rule B bars it
     pub barred-by-B : v + 1 < floor
-        → tryFrom board limit first slot core next (suc j) floor t l v barred u ≡ tryFrom board limit first slot core next j floor t l (v + 1) (barred + evenOn board v) u
+        → tryFrom board limit first slot core sets next (suc j) floor t l v barred u ≡ tryFrom board limit first slot core sets next j floor t l (v + 1) (barred + evenOn board v) u
     unfolding tryFrom
     barred-by-B h = rw (p, lt-leb floor (v + 1) h)
 
     module _ (h : floor ≤ v + 1) where
       -- the limit is used up
-      pub stop : u ≡ limit → tryFrom board limit first slot core next (suc j) floor t l v barred u ≡ state Stopped t l u
+      pub stop : u ≡ limit → tryFrom board limit first slot core sets next (suc j) floor t l v barred u ≡ state Stopped t l u
       unfolding tryFrom
       stop e = rw (p, le-leb floor (v + 1) h, eq-eqb u limit e)
 
-      module _ (e : u ≢ limit) (r : State) (is : placed board limit first slot core next t l v u ≡ r) where
-        pub tried : tryFrom board limit first slot core next (suc j) floor t l v barred u
-            ≡ orElse (r .end) r (λ s. tryFrom board limit first slot core next j floor (s .table) (set (s .left) (counterOn board slot v) (nth l (counterOn board slot v))) (v + 1) (barred + evenOn board v) (s .tries))
+      module _ (e : u ≢ limit) (r : State) (is : placed board limit first slot core sets next t l v u ≡ r) where
+        pub tried : tryFrom board limit first slot core sets next (suc j) floor t l v barred u
+            ≡ orElse (r .end) r (λ s. tryFrom board limit first slot core sets next j floor (s .table) (set (s .left) (counterOn board slot v) (nth l (counterOn board slot v))) (v + 1) (barred + evenOn board v) (s .tries))
         unfolding tryFrom
         tried = rw (p, le-leb floor (v + 1) h, ne-eqb u limit e, is)
 
         -- nothing is found below it
-        pub back : r .end ≡ Nothing → tryFrom board limit first slot core next (suc j) floor t l v barred u
-            ≡ tryFrom board limit first slot core next j floor (r .table) (set (r .left) (counterOn board slot v) (nth l (counterOn board slot v))) (v + 1) (barred + evenOn board v) (r .tries)
-        back n = tried ∙ ap (λ (x : End). orElse x r (λ s. tryFrom board limit first slot core next j floor (s .table) (set (s .left) (counterOn board slot v) (nth l (counterOn board slot v))) (v + 1) (barred + evenOn board v) (s .tries))) n
+        pub back : r .end ≡ Nothing → tryFrom board limit first slot core sets next (suc j) floor t l v barred u
+            ≡ tryFrom board limit first slot core sets next j floor (r .table) (set (r .left) (counterOn board slot v) (nth l (counterOn board slot v))) (v + 1) (barred + evenOn board v) (r .tries)
+        back n = tried ∙ ap (λ (x : End). orElse x r (λ s. tryFrom board limit first slot core sets next j floor (s .table) (set (s .left) (counterOn board slot v) (nth l (counterOn board slot v))) (v + 1) (barred + evenOn board v) (s .tries))) n
 
         -- the walk ends below it
-        stays : (r .end ≡ Nothing → ⊥) → tryFrom board limit first slot core next (suc j) floor t l v barred u ≡ r
+        stays : (r .end ≡ Nothing → ⊥) → tryFrom board limit first slot core sets next (suc j) floor t l v barred u ≡ r
         stays x = tried ∙ or-else-stays (r .end) r _ x
 
+-- values that may not stand there
+pub skips-to : (board : List ℕ) (limit first slot core sets : ℕ) (next : Onward) (floor : ℕ) (t l : List ℕ) (barred u z j v : ℕ)
+    → ((w : ℕ) → v ≤ w → w < v + z → has sets w core ≡ false)
+    → tryFrom board limit first slot core sets next (j + z) floor t l v barred u ≡ tryFrom board limit first slot core sets next j floor t l (v + z) barred u
+skips-to board limit first slot core sets next floor t l barred u zero j v h = λ i. tryFrom board limit first slot core sets next (add-zero j i) floor t l (sym (add-zero v) i) barred u
+skips-to board limit first slot core sets next floor t l barred u (suc z) j v h =
+    ap (λ k. tryFrom board limit first slot core sets next k floor t l v barred u) (add-suc j z)
+    ∙ skip board limit first slot core sets next (j + z) floor t l v barred u (h v (omega arith) (omega arith))
+    ∙ skips-to board limit first slot core sets next floor t l barred u z j (v + 1) (λ w a b. h w (omega arith) (omega arith))
+    ∙ ap (λ x. tryFrom board limit first slot core sets next j floor t l x barred u) (omega arith)
+
 -- what walks on from the cell after the core
-abbrev pub onward : List ℕ → ℕ → ℕ → ℕ → ℕ → Onward
-onward board limit first slot core = closeThen board (walkOn (cellsOn board - (first + (core + 1))) board limit) first slot (core + 1)
+abbrev pub onward : List ℕ → ℕ → Onward
+onward board place = closeThen board (walkOn (cellsLeft board place) board full) (firstOn board place) (place / 4) (place % 4 + 1)
 
--- the loop over the values of a cell: what is still to be tried gives what the whole walk gives
-pub record Turn (board : List ℕ) (limit first slot core : ℕ) (t₀ l₀ : List ℕ) (tries n floor : ℕ) (t l : List ℕ) (used barred task : ℕ) : Type 0 where
-  pub task-in : task ≤ n
-  pub n-is : n ≡ tasksOn board
-  pub most : used ≤ limit
-  pub bar : barred ≤ 65535 * task
-  pub same : walkOn (cellsOn board - (first + core)) board limit first slot core t₀ l₀ tries
-      ≡ tryFrom board limit first slot core (onward board limit first slot core) (n - task) floor t l task barred used
+-- the values of the cell of a place, from v on
+abbrev pub still : List ℕ → ℕ → ℕ → ℕ → ℕ → List ℕ → List ℕ → ℕ → ℕ → ℕ → State
+still board place sets j floor t l v barred u = tryFrom board full (firstOn board place) (place / 4) (place % 4) sets (onward board place) j floor t l v barred u
 
-module _ {board : List ℕ} {limit first slot core : ℕ} {t₀ l₀ : List ℕ} {tries n floor : ℕ} where
+-- the loop over the values of a cell: the tasks in `rest`, none of them before `next`, are still to be tried, and this gives what the whole walk gives
+pub record Turn (board : List ℕ) (place sets first : ℕ) (t₀ l₀ : List ℕ) (tries floor : ℕ) (t l : List ℕ) (used barred rest : ℕ) : Type 0 where
+  pub stands : Stands board place sets
+  pub first-is : first ≡ firstOn board place
+  pub next : ℕ
+  pub next-in : next ≤ tasksOn board
+  pub alone : Alone rest
+  pub few : rest < 2 ^ 64
+  pub rest-is : (v : ℕ) → next ≤ v → v < 16 → has rest v 0 ≡ has sets v (place % 4)
+  pub none-before : (v : ℕ) → v < next → has rest v 0 ≡ false
+  pub most : used ≤ full
+  pub bar : barred ≤ 65535 * next
+  pub same : walkOn (suc (cellsLeft board place)) board full (firstOn board place) (place / 4) (place % 4) sets t₀ l₀ tries
+      ≡ still board place sets (tasksOn board - next) floor t l next barred used
+
+module _ {board : List ℕ} {place sets first : ℕ} {t₀ l₀ : List ℕ} {tries floor : ℕ} where
   -- before the first value
-  pub begins : Fits board first slot → core < coresOn board → n ≡ tasksOn board → floor ≡ floorOn board t₀ first core → tries ≤ limit
-      → Turn board limit first slot core t₀ l₀ tries n floor t₀ l₀ tries 0 0
+  pub begins : Stands board place sets → first ≡ firstOn board place → {rest : ℕ} → rest ≡ ofCore sets (place % 4) → floor ≡ floorOn board t₀ first (place % 4) → tries ≤ full
+      → Turn board place sets first t₀ l₀ tries floor t₀ l₀ tries 0 rest
   unfolding walkOn
-  begins fits lc en ef m = record {
-    task-in = omega arith;
-    n-is = en;
+  begins s e er ef m = record {
+    stands = s;
+    first-is = e;
+    next = 0;
+    next-in = omega arith;
+    alone = rw er (of-core-alone sets (place % 4));
+    few = rw er (of-core-lt sets (place % 4));
+    rest-is = λ v _ lv. ap (λ x. has x v 0) er ∙ of-core-has sets (place % 4) v (omega (arith, s .core-in, s .fits .cores)) lv;
+    none-before = λ v l. absurd (omega arith);
     most = m;
     bar = omega arith;
-    same = ap (λ k. walkOn k board limit first slot core t₀ l₀ tries) cells
-        ∙ ap (λ k. tryFrom board limit first slot core (onward board limit first slot core) k (floorOn board t₀ first core) t₀ l₀ 0 0 tries) (omega arith)
-        ∙ ap (λ f. tryFrom board limit first slot core (onward board limit first slot core) (n - 0) f t₀ l₀ 0 0 tries) (sym ef);
+    same = ap (λ k. still board place sets k (floorOn board t₀ (firstOn board place) (place % 4)) t₀ l₀ 0 0 tries) (omega arith)
+        ∙ ap (λ f. still board place sets (tasksOn board - 0) f t₀ l₀ 0 0 tries) (sym (ef ∙ ap (λ x. floorOn board t₀ x (place % 4)) e));
   }
-    where
-      cells : cellsOn board - (first + core) ≡ suc (cellsOn board - (first + (core + 1)))
-      cells = omega (arith, in-cells fits core lc)
 
   -- the same with equal parts
-  pub turn-same : {t l t″ l″ : List ℕ} {used barred used″ barred″ task : ℕ} → Turn board limit first slot core t₀ l₀ tries n floor t l used barred task
-      → t″ ≡ t → l″ ≡ l → used″ ≡ used → barred″ ≡ barred → Turn board limit first slot core t₀ l₀ tries n floor t″ l″ used″ barred″ task
-  turn-same {task = task} turn et el eu eb =
-      transport (λ i. Turn board limit first slot core t₀ l₀ tries n floor (sym et i) (sym el i) (sym eu i) (sym eb i) task) turn
+  pub turn-same : {t l t″ l″ : List ℕ} {used barred used″ barred″ rest rest″ : ℕ} → Turn board place sets first t₀ l₀ tries floor t l used barred rest
+      → t″ ≡ t → l″ ≡ l → used″ ≡ used → barred″ ≡ barred → rest″ ≡ rest → Turn board place sets first t₀ l₀ tries floor t″ l″ used″ barred″ rest″
+  turn-same turn et el eu eb er =
+      transport (λ i. Turn board place sets first t₀ l₀ tries floor (sym et i) (sym el i) (sym eu i) (sym eb i) (sym er i)) turn
 
-  module _ {t l : List ℕ} {used barred task : ℕ} (turn : Turn board limit first slot core t₀ l₀ tries n floor t l used barred task) where
-    -- one value is left at least
-    values : task < n → walkOn (cellsOn board - (first + core)) board limit first slot core t₀ l₀ tries
-        ≡ tryFrom board limit first slot core (onward board limit first slot core) (suc (n - (task + 1))) floor t l task barred used
-    values h = turn .same ∙ ap (λ k. tryFrom board limit first slot core (onward board limit first slot core) k floor t l task barred used) (omega arith)
+  module _ {t l : List ℕ} {used barred rest : ℕ} (turn : Turn board place sets first t₀ l₀ tries floor t l used barred rest) where
+    -- what was seen to bar idle is a number
+    pub bar-few : barred ≤ 1048560
+    bar-few = omega (arith, turn .bar, turn .next-in, turn .stands .fits .tasks)
 
-    -- a value that is not permitted
-    pub skips : task < n → {b : _} → b ≡ permittedOn board t l first slot core task → b ≡ false
-        → Turn board limit first slot core t₀ l₀ tries n floor t l used barred (task + 1)
-    skips h e f = record {
-      task-in = omega arith;
-      n-is = turn .n-is;
-      most = turn .most;
-      bar = omega (arith, turn .bar);
-      same = values h ∙ skip board limit first slot core _ (n - (task + 1)) floor t l task barred used (sym e ∙ f);
-    }
+    -- some task is still to be tried: the lowest
+    module _ (some : rest ≢ 0) {task : ℕ} (et : task ≡ lowest rest) where
+      there : (task < 16) × (has rest task 0 ≡ true)
+      there = rw et (lowest-in rest some (turn .few) (turn .alone))
 
-    module _ (h : task < n) {b : _} (e : b ≡ permittedOn board t l first slot core task) (f : b ≡ true) {even : ℕ} (ee : even ≡ evenOn board task) (small : even ≤ 65535) where
-      -- a value that rule B bars
-      pub bars : task + 1 < floor → Turn board limit first slot core t₀ l₀ tries n floor t l used (barred + even) (task + 1)
-      bars less = record {
-        task-in = omega arith;
-        n-is = turn .n-is;
-        most = turn .most;
-        bar = omega (arith, turn .bar);
-        same = values h ∙ barred-by-B board limit first slot core _ (n - (task + 1)) floor t l task barred used (sym e ∙ f) less
-            ∙ ap (λ x. tryFrom board limit first slot core (onward board limit first slot core) (n - (task + 1)) floor t l (task + 1) (barred + x) used) (sym ee);
+      -- none comes before it
+      first-there : (v : ℕ) → v < task → has rest v 0 ≡ false
+      first-there v h = lowest-first rest v (turn .alone) (rw et at h)
+
+      -- it is none of those before
+      not-before : turn .next ≤ task
+      not-before = elim (lt-or-ge task (turn .next)) [
+        | inl h ↦ absurd (apart (sym (there .1) ∙ turn .none-before task h))
+        | inr h ↦ h
+      ]
+
+      -- it may stand there
+      may : has sets task (place % 4) ≡ true
+      may = sym (turn .rest-is task not-before (there .0)) ∙ there .1
+
+      -- it is one of the list's
+      task-in : task < tasksOn board
+      task-in = elim (lt-or-ge task (tasksOn board)) [
+        | inl h ↦ h
+        | inr h ↦ absurd (apart (sym may ∙ turn .stands .within task (place % 4) h (omega (arith, turn .stands .core-in, turn .stands .fits .cores))))
+      ]
+
+      pub task-few : task < 16
+      task-few = there .0
+
+      -- those between may not
+      values : walkOn (suc (cellsLeft board place)) board full (firstOn board place) (place / 4) (place % 4) sets t₀ l₀ tries
+          ≡ still board place sets (suc (tasksOn board - (task + 1))) floor t l task barred used
+      values = turn .same
+          ∙ ap (λ k. still board place sets k floor t l (turn .next) barred used) count
+          ∙ skips-to board full (firstOn board place) (place / 4) (place % 4) sets (onward board place) floor t l barred used (task - turn .next) (suc (tasksOn board - (task + 1))) (turn .next)
+          (λ w a b. let h : w < task = omega (arith, not-before) in sym (turn .rest-is w a (omega (arith, there .0))) ∙ first-there w h)
+          ∙ ap (λ v. still board place sets (suc (tasksOn board - (task + 1))) floor t l v barred used) (omega (arith, not-before))
+        where
+          count : tasksOn board - turn .next ≡ suc (tasksOn board - (task + 1)) + (task - turn .next)
+          count = omega (arith, not-before, task-in)
+
+      module _ {rest′ : ℕ} (er : rest′ ≡ without rest task) where
+        -- the tasks up to this one are gone
+        gone : (v : ℕ) → v < task + 1 → has rest′ v 0 ≡ false
+        gone v a = ap (λ x. has x v 0) er ∙ without-has rest task v 0 (there .0) (omega arith) ∙ elim (ℕ-discrete v task) [
+          | yes q ↦ rw (eq-eqb v task q)
+          | no x ↦ rw (ne-eqb v task x) (first-there v (omega arith))
+        ]
+
+        -- the lowest rises
+        pub rises : 16 - lowest rest′ < 16 - lowest rest
+        unfolding lowest
+        rises = elim (ℕ-discrete rest′ 0) [
+          | yes z ↦ omega (arith, sym et, there .0, ap lowest z, trailing-of-zero 64)
+          | no x ↦ elim (lt-or-ge (lowest rest′) (task + 1)) [
+            | inl h ↦ absurd (apart (sym (lowest-in rest′ x (rw er (without-lt rest task (turn .few))) (rw er (without-alone rest task (there .0) (turn .alone))) .1) ∙ gone (lowest rest′) h))
+            | inr h ↦ omega (arith, sym et, there .0)
+          ]
+        ]
+
+        module _ {even : ℕ} (ee : even ≡ evenOn board task) (small : even ≤ 65535) where
+          -- a turn with the task tried or passed over
+          after : (t′ l′ : List ℕ) (used′ : ℕ) → used′ ≤ full
+              → walkOn (suc (cellsLeft board place)) board full (firstOn board place) (place / 4) (place % 4) sets t₀ l₀ tries
+              ≡ still board place sets (tasksOn board - (task + 1)) floor t′ l′ (task + 1) (barred + even) used′
+              → Turn board place sets first t₀ l₀ tries floor t′ l′ used′ (barred + even) rest′
+          after t′ l′ used′ m e = record {
+            stands = turn .stands;
+            first-is = turn .first-is;
+            next = task + 1;
+            next-in = omega (arith, task-in);
+            alone = rw er (without-alone rest task (there .0) (turn .alone));
+            few = rw er (without-lt rest task (turn .few));
+            rest-is = λ v a lv. ap (λ x. has x v 0) er ∙ without-has rest task v 0 (there .0) (omega arith) ∙ rw (ne-eqb v task (λ q. omega arith)) (turn .rest-is v (omega (arith, not-before)) lv);
+            none-before = gone;
+            most = m;
+            bar = omega (arith, turn .bar, not-before, small);
+            same = e;
+          }
+
+          -- a value that rule B bars
+          pub bars : task + 1 < floor → Turn board place sets first t₀ l₀ tries floor t l used (barred + even) rest′
+          bars less = after t l used (turn .most)
+              (values ∙ barred-by-B board full (firstOn board place) (place / 4) (place % 4) sets (onward board place) (tasksOn board - (task + 1)) floor t l task barred used may less
+              ∙ ap (λ x. still board place sets (tasksOn board - (task + 1)) floor t l (task + 1) (barred + x) used) (sym ee))
+
+          -- a value that is put into the cell: the work left is less by its rate, and the walk goes on with the slot's next core
+          module _ (low : floor ≤ task + 1) (q : used ≢ full) {k rate had : ℕ} (ek : k ≡ counterOn board (place / 4) task) (eo : rate ≡ rateOn board task (place % 4)) (eh : had ≡ nth l k)
+              {l₁ : List ℕ} (el : l₁ ≡ set l k (nth l k - rate)) {sets₁ : ℕ} (es : sets₁ ≡ without sets task) {r : ℕ} {t′ l′ : List ℕ}
+              (ran : Closed board place sets₁ (set t (first + place % 4) (task + 1)) l₁ (used + 1) r t′ l′) where
+            below : State
+            below = onward board place sets₁ (set t (first + place % 4) (task + 1)) l₁ (used + 1)
+
+            went : placed board full (firstOn board place) (place / 4) (place % 4) sets (onward board place) t l task used ≡ below
+            unfolding placed below
+            went = sym (λ i. onward board place (es i) (set t (turn .first-is i + place % 4) (task + 1)) ((el ∙ (λ j. set l (ek j) (nth l (ek j) - eo j))) i) (used + 1))
+
+            -- it comes back with nothing, and the counter is given back what it was
+            pub backs : r < 4294967296 → {l″ : List ℕ} → l″ ≡ set l′ k had → Turn board place sets first t₀ l₀ tries floor t′ l″ r (barred + even) rest′
+            unfolding below
+            backs small-r {l″} eb = after t′ l″ r (omega (arith, ran .leaves .most, nothing .1))
+                (values ∙ back board full (firstOn board place) (place / 4) (place % 4) sets (onward board place) (tasksOn board - (task + 1)) floor t l task barred used may low q below went (nothing .0)
+                ∙ (λ i. still board place sets (tasksOn board - (task + 1)) floor (sym (ran .leaves .table) i) (given i) (task + 1) (barred + sym ee i) (nothing .1 i)))
+              where
+                nothing : (below .end ≡ Nothing) × (below .tries ≡ r)
+                nothing = packed-nothing (below .end) (below .tries) r (ran .leaves .answer) small-r
+
+                given : set (below .left) (counterOn board (place / 4) task) (nth l (counterOn board (place / 4) task)) ≡ l″
+                given = (λ i. set (sym (ran .leaves .left) i) (sym ek i) (nth l (sym ek i))) ∙ ap (set l′ k) (sym eh) ∙ sym eb
+
+            -- it comes back with an end
+            pub ends : 4294967296 ≤ r → Ran board place sets t₀ l₀ tries r t′ l′
+            unfolding below
+            ends big = record {
+              leaves = leaves-same (sym (values ∙ stays board full (firstOn board place) (place / 4) (place % 4) sets (onward board place) (tasksOn board - (task + 1)) floor t l task barred used may low q below went
+                  (packed-ended (below .end) (below .tries) r (ran .leaves .answer) (omega (arith, ran .leaves .most)) big))) (ran .leaves);
+            }
+
+      -- a value that the limit does not allow
+      pub stops : floor ≤ task + 1 → used ≡ full → Ran board place sets t₀ l₀ tries (8589934592 + used) t l
+      unfolding packed
+      stops low q = record {
+        leaves = leaves-same (sym (values ∙ stop board full (firstOn board place) (place / 4) (place % 4) sets (onward board place) (tasksOn board - (task + 1)) floor t l task barred used may low q)) (told Stopped t l used (turn .most));
       }
 
-      module _ (some : floor ≤ task + 1) where
-        -- a value that the limit does not allow
-        pub stops : used ≡ limit → Ran board limit first slot core t₀ l₀ tries (8589934592 + used) t l
-        unfolding packed
-        stops q = record {
-          leaves = leaves-same (sym (values h ∙ stop board limit first slot core _ (n - (task + 1)) floor t l task barred used (sym e ∙ f) some q)) (told Stopped t l used (turn .most));
-        }
-
-        -- a value that is put into the cell: the work left is less by its rate, and the walk goes on with the slot's next core
-        module _ (q : used ≢ limit) {k rate had : ℕ} (ek : k ≡ counterOn board slot task) (er : rate ≡ rateOn board task core) (eh : had ≡ nth l k)
-            {l₁ : List ℕ} (el : l₁ ≡ set l k (nth l k - rate)) {r : ℕ} {t′ l′ : List ℕ}
-            (ran : Closed board limit first slot (core + 1) (set t (first + core) (task + 1)) l₁ (used + 1) r t′ l′) where
-          below : State
-          below = onward board limit first slot core (set t (first + core) (task + 1)) l₁ (used + 1)
-
-          went : placed board limit first slot core (onward board limit first slot core) t l task used ≡ below
-          unfolding placed below
-          went = sym (ap (λ x. onward board limit first slot core (set t (first + core) (task + 1)) x (used + 1)) (el ∙ (λ i. set l (ek i) (nth l (ek i) - er i))))
-
-          -- it comes back with nothing, and the counter is given back what it was
-          pub backs : r < 4294967296 → {l″ : List ℕ} → l″ ≡ set l′ k had → Turn board limit first slot core t₀ l₀ tries n floor t′ l″ r (barred + even) (task + 1)
-          unfolding below
-          backs small-r {l″} es = record {
-            task-in = omega arith;
-            n-is = turn .n-is;
-            most = omega (arith, ran .leaves .most, nothing .1);
-            bar = omega (arith, turn .bar);
-            same = values h ∙ back board limit first slot core _ (n - (task + 1)) floor t l task barred used (sym e ∙ f) some q below went (nothing .0)
-                ∙ (λ i. tryFrom board limit first slot core (onward board limit first slot core) (n - (task + 1)) floor (sym (ran .leaves .table) i) (given i) (task + 1) (barred + sym ee i) (nothing .1 i));
-          }
-            where
-              nothing : (below .end ≡ Nothing) × (below .tries ≡ r)
-              nothing = packed-nothing (below .end) (below .tries) r (ran .leaves .answer) small-r
-
-              given : set (below .left) (counterOn board slot task) (nth l (counterOn board slot task)) ≡ l″
-              given = (λ i. set (sym (ran .leaves .left) i) (sym ek i) (nth l (sym ek i))) ∙ ap (set l′ k) (sym eh) ∙ sym es
-
-          -- it comes back with an end
-          pub ends : limit < 4294967296 → 4294967296 ≤ r → Ran board limit first slot core t₀ l₀ tries r t′ l′
-          unfolding below
-          ends few big = record {
-            leaves = leaves-same (sym (values h ∙ stays board limit first slot core _ (n - (task + 1)) floor t l task barred used (sym e ∙ f) some q below went
-                (packed-ended (below .end) (below .tries) r (ran .leaves .answer) (omega (arith, ran .leaves .most)) big))) (ran .leaves);
-          }
-
     -- after the last task: idle
-    module _ (h : n ≤ task) where
-      last : walkOn (cellsOn board - (first + core)) board limit first slot core t₀ l₀ tries
-          ≡ idleLast board limit first slot core (onward board limit first slot core) t l barred used
+    module _ (over : rest ≡ 0) where
+      last : walkOn (suc (cellsLeft board place)) board full (firstOn board place) (place / 4) (place % 4) sets t₀ l₀ tries
+          ≡ idleLast board full (firstOn board place) (place / 4) (place % 4) sets (onward board place) t l barred used
       unfolding tryFrom
-      last = let z : n - task ≡ 0 = omega arith in turn .same ∙ ap (λ k. tryFrom board limit first slot core (onward board limit first slot core) k floor t l task barred used) z
+      last = turn .same
+          ∙ ap (λ k. still board place sets k floor t l (turn .next) barred used) (sym (zero-add (tasksOn board - turn .next)))
+          ∙ skips-to board full (firstOn board place) (place / 4) (place % 4) sets (onward board place) floor t l barred used (tasksOn board - turn .next) 0 (turn .next)
+          (λ w a b. sym (turn .rest-is w a (omega (arith, turn .next-in, turn .stands .fits .tasks))) ∙ ap (λ x. has x w 0) over ∙ none-has w 0)
 
       -- rule A bars it
-      pub idle-barred : barred ≢ 0 → Ran board limit first slot core t₀ l₀ tries used t l
+      pub idle-barred : barred ≢ 0 → Ran board place sets t₀ l₀ tries used t l
       unfolding idleLast packed
       idle-barred x = record { leaves = leaves-same (sym (last ∙ rw (ne-eqb barred 0 x))) (told Nothing t l used (turn .most)) }
 
       -- the limit does not allow it
-      pub idle-stops : barred ≡ 0 → used ≡ limit → Ran board limit first slot core t₀ l₀ tries (8589934592 + used) t l
+      pub idle-stops : barred ≡ 0 → used ≡ full → Ran board place sets t₀ l₀ tries (8589934592 + used) t l
       unfolding idleLast packed
-      idle-stops z q = record { leaves = leaves-same (sym (last ∙ rw (eq-eqb barred 0 z, eq-eqb used limit q))) (told Stopped t l used (turn .most)) }
+      idle-stops z q = record { leaves = leaves-same (sym (last ∙ rw (eq-eqb barred 0 z, eq-eqb used full q))) (told Stopped t l used (turn .most)) }
 
       -- it is put into the cell
-      pub idles : barred ≡ 0 → used ≢ limit → {r : ℕ} {t′ l′ : List ℕ}
-          → Closed board limit first slot (core + 1) (set t (first + core) 0) l (used + 1) r t′ l′ → Ran board limit first slot core t₀ l₀ tries r t′ l′
+      pub idles : barred ≡ 0 → used ≢ full → {r : ℕ} {t′ l′ : List ℕ}
+          → Closed board place sets (set t (first + place % 4) 0) l (used + 1) r t′ l′ → Ran board place sets t₀ l₀ tries r t′ l′
       unfolding idleLast
-      idles z q ran = record { leaves = leaves-same (sym (last ∙ rw (eq-eqb barred 0 z, ne-eqb used limit q))) (ran .leaves) }
+      idles z q ran = record {
+        leaves = leaves-same (ap (λ x. onward board place sets (set t (x + place % 4) 0) l (used + 1)) (turn .first-is) ∙ sym (last ∙ rw (eq-eqb barred 0 z, ne-eqb used full q))) (ran .leaves);
+      }
+
+-- ---- where the walk goes on
+module _ {board : List ℕ} {place sets : ℕ} (stands : Stands board place sets) where
+  -- after a task in the cell
+  pub stands-without : {task sets′ : ℕ} → task < 16 → sets′ ≡ without sets task → Stands board place sets′
+  stands-without {task} lt es = record {
+    fits = stands .fits;
+    core-in = stands .core-in;
+    within = λ v c n l. ap (λ s. has s v c) es ∙ without-has sets task v c lt l ∙ ap (λ b. not (eqb v task) && b) (stands .within v c n l) ∙ and-false (not (eqb v task));
+  }
+    where
+      and-false : (b : Bool) → b && false ≡ false
+      and-false true = refl
+      and-false false = refl
+
+  -- at the next core
+  pub stands-core : place % 4 + 1 < coresOn board → Stands board (place + 1) sets
+  stands-core h =
+      let same : place / 4 ≡ (place + 1) / 4 = omega (arith, stands .fits .cores) in
+      record { fits = subst (Fits board) same (stands .fits); core-in = omega (arith, stands .fits .cores); within = stands .within }
+
+  -- at the next slot
+  pub stands-slot : place / 4 + 1 < slotsOn board → (l : List ℕ) (slot : ℕ) {sets′ : ℕ} → sets′ ≡ setsOn board l slot → Stands board ((place / 4 + 1) * 4) sets′
+  stands-slot h l slot es = record {
+    fits = record { tasks = stands .fits .tasks; cores = stands .fits .cores; slots = stands .fits .slots; slot-in = omega arith };
+    core-in = omega (arith, stands .core-in);
+    within = λ v c n _. ap (λ s. has s v c) es ∙ sets-none board l slot (tasksOn board) 0 v c n;
+  }
+
+-- at the first cell
+pub stands-start : (board l : List ℕ) {sets : ℕ} → Fits board 0 → 0 < coresOn board → sets ≡ setsOn board l 0 → Stands board 0 sets
+stands-start board l fits some es = record {
+  fits = fits;
+  core-in = some;
+  within = λ v c n _. ap (λ s. has s v c) es ∙ sets-none board l 0 (tasksOn board) 0 v c n;
+}
 
 -- ---- after a core
-module _ {board : List ℕ} {limit first slot core : ℕ} {t l : List ℕ} {u : ℕ} where
-  -- there is one more core
-  pub goes-on : core < coresOn board → {r : ℕ} {t′ l′ : List ℕ} → Ran board limit first slot core t l u r t′ l′ → Closed board limit first slot core t l u r t′ l′
-  unfolding closeThen
-  goes-on h ran = record { leaves = leaves-same (sym (rw (lt-ltb core (coresOn board) h))) (ran .leaves) }
+module _ {board : List ℕ} {place sets : ℕ} (stands : Stands board place sets) where
+  -- the slot, the core and the cells left after the next core
+  next-core : place % 4 + 1 < coresOn board → (place / 4 ≡ (place + 1) / 4) × (place % 4 + 1 ≡ (place + 1) % 4)
+  next-core h = (omega (arith, stands .fits .cores), omega (arith, stands .fits .cores))
 
-  module _ (h : coresOn board ≤ core) {b : _} (e : b ≡ closesOn board l slot) where
+  pub core-left : place % 4 + 1 < coresOn board → cellsLeft board place ≡ suc (cellsLeft board (place + 1))
+  core-left h = omega (arith, slot-cells place (stands .fits), next-core h .1, ap (λ s. s * coresOn board) (next-core h .0))
+
+  -- the first cell of the next slot, and the cells left after it
+  slot-first : coresOn board ≤ place % 4 + 1 → firstOn board place + (place % 4 + 1) ≡ firstOn board ((place / 4 + 1) * 4)
+  slot-first h =
+      let slot : place / 4 + 1 ≡ (place / 4 + 1) * 4 / 4 = omega arith in
+      let whole : place % 4 + 1 ≡ coresOn board = omega (arith, stands .core-in) in
+      omega (arith, whole, ap (λ s. s * coresOn board) slot)
+
+  pub slot-left : coresOn board ≤ place % 4 + 1 → place / 4 + 1 < slotsOn board → cellsLeft board place ≡ suc (cellsLeft board ((place / 4 + 1) * 4))
+  slot-left h s =
+      let core : (place / 4 + 1) * 4 % 4 ≡ 0 = omega arith in
+      let whole : place % 4 + 1 ≡ coresOn board = omega (arith, stands .core-in) in
+      omega (arith, slot-first h, core, whole, stands .core-in, mul-le-mul-right (coresOn board) s)
+
+module _ {board : List ℕ} {place sets : ℕ} {t l : List ℕ} {u : ℕ} (stands : Stands board place sets) where
+  -- the walk goes on with k cells left from another place
+  moves : (place′ : ℕ) → cellsLeft board place ≡ suc (cellsLeft board place′) → {first slot core : ℕ} → first ≡ firstOn board place′ → slot ≡ place′ / 4 → core ≡ place′ % 4
+      → {sets′ r : ℕ} {t′ l′ : List ℕ} → Ran board place′ sets′ t l u r t′ l′ → Leaves full (walkOn (cellsLeft board place) board full first slot core sets′ t l u) r t′ l′
+  moves place′ ec ef es eo {sets′} ran = leaves-same (λ i. walkOn (sym ec i) board full (sym ef i) (sym es i) (sym eo i) sets′ t l u) (ran .leaves)
+
+  -- there is one more core
+  pub goes-on : place % 4 + 1 < coresOn board → {r : ℕ} {t′ l′ : List ℕ} → Ran board (place + 1) sets t l u r t′ l′ → Closed board place sets t l u r t′ l′
+  unfolding closeThen
+  goes-on h ran = record {
+    leaves = leaves-same (sym (rw (lt-ltb (place % 4 + 1) (coresOn board) h)))
+        (moves (place + 1) (core-left stands h) (ap (λ s. s * coresOn board) (next-core stands h .0)) (next-core stands h .0) (next-core stands h .1) ran);
+  }
+
+  module _ (h : coresOn board ≤ place % 4 + 1) {b : Bool} (e : b ≡ closesOn board l (place / 4)) where
     -- a job is starved
-    pub starved : b ≡ false → u ≤ limit → Closed board limit first slot core t l u u t l
+    pub starved : b ≡ false → u ≤ full → Closed board place sets t l u u t l
     unfolding closeThen packed
-    starved f m = record { leaves = leaves-same (sym (rw (le-ltb core (coresOn board) h, ← e, f))) (told Nothing t l u m) }
+    starved f m = record { leaves = leaves-same (sym (rw (le-ltb (place % 4 + 1) (coresOn board) h, ← e, f))) (told Nothing t l u m) }
 
     -- the table is found
-    pub founds : b ≡ true → slotsOn board ≤ slot + 1 → u ≤ limit → Closed board limit first slot core t l u (4294967296 + u) t l
+    pub founds : b ≡ true → slotsOn board ≤ place / 4 + 1 → u ≤ full → Closed board place sets t l u (4294967296 + u) t l
     unfolding closeThen packed
-    founds f s m = record { leaves = leaves-same (sym (rw (le-ltb core (coresOn board) h, ← e, f, le-ltb (slot + 1) (slotsOn board) s))) (told Found t l u m) }
+    founds f s m = record { leaves = leaves-same (sym (rw (le-ltb (place % 4 + 1) (coresOn board) h, ← e, f, le-ltb (place / 4 + 1) (slotsOn board) s))) (told Found t l u m) }
 
     -- there is one more slot
-    pub next-slots : b ≡ true → slot + 1 < slotsOn board → {r : ℕ} {t′ l′ : List ℕ} → Ran board limit (first + core) (slot + 1) 0 t l u r t′ l′
-        → Closed board limit first slot core t l u r t′ l′
+    pub next-slots : b ≡ true → place / 4 + 1 < slotsOn board → {sets′ : ℕ} → sets′ ≡ setsOn board l (place / 4 + 1) → {r : ℕ} {t′ l′ : List ℕ}
+        → Ran board ((place / 4 + 1) * 4) sets′ t l u r t′ l′ → Closed board place sets t l u r t′ l′
     unfolding closeThen
-    next-slots f s ran = record {
-      leaves = leaves-same (ap (λ k. walkOn (cellsOn board - k) board limit (first + core) (slot + 1) 0 t l u) (add-zero (first + core))
-          ∙ sym (rw (le-ltb core (coresOn board) h, ← e, f, lt-ltb (slot + 1) (slotsOn board) s))) (ran .leaves);
+    next-slots f s {sets′} es ran = record {
+      leaves = leaves-same (ap (λ x. walkOn (cellsLeft board place) board full (firstOn board place + (place % 4 + 1)) (place / 4 + 1) 0 x t l u) es
+          ∙ sym (rw (le-ltb (place % 4 + 1) (coresOn board) h, ← e, f, lt-ltb (place / 4 + 1) (slotsOn board) s)))
+          (moves ((place / 4 + 1) * 4) (slot-left stands h s) (slot-first stands h) slot core ran);
     }
+      where
+        slot : place / 4 + 1 ≡ (place / 4 + 1) * 4 / 4
+        slot = omega arith
+
+        core : 0 ≡ (place / 4 + 1) * 4 % 4
+        core = omega arith
+
+-- the same with equal sets
+pub ran-same : {board : List ℕ} {place sets sets′ : ℕ} {t l : List ℕ} {u r : ℕ} {t′ l′ : List ℕ} → sets′ ≡ sets → Ran board place sets′ t l u r t′ l′ → Ran board place sets t l u r t′ l′
+ran-same {board} {place} {t = t} {l = l} {u = u} {r = r} {t′ = t′} {l′ = l′} e = subst (λ s. Ran board place s t l u r t′ l′) e

@@ -1,19 +1,16 @@
 -- The walk on its arrays: a board, a table and the work left.
 -- Assumes nothing.
-use Prim.Native.Nat.{ℕ, zero, suc, _+_, _*_, _-_, _/_, _%_, _≤_, _<_, max}
+use Prim.Native.Nat.{ℕ, zero, suc, _+_, _*_, _-_, _/_, _%_, _≤_, _<_, max, min}
 use mathlib.Core.Path.{_≡_}
-use mathlib.Core.Bool.{Bool, cond, not}
-use mathlib.Core.List.{List, [], _∷_}
+use mathlib.Core.Bool.{Bool, false, cond, not}
+use mathlib.Core.List.{List}
 use lib.Dec.{leb, ltb, eqb}
 use lib.ListN.{set}
 use Rattle.laws.specs.Sum.{gate}
-use Rattle.laws.specs.Tests.{every, all, imp}
+use Rattle.laws.specs.Tests.{all, imp}
 use Rattle.laws.specs.Lists.{nth}
 use Rattle.laws.specs.Order.{rankOf}
-
--- the value stands on none of the earlier cores of the slot that begins at cell first
-unfoldable pub freeOn : List ℕ → ℕ → ℕ → ℕ → Bool
-freeOn t first core v = all core (λ j. not (eqb (nth t (first + j)) v))
+use Rattle.sets.specs.Sets.{has, without, pushed}
 
 -- the largest of g 0, .., g (n - 1), or 0
 unfoldable pub most : ℕ → (ℕ → ℕ) → ℕ
@@ -56,10 +53,18 @@ cellsOn board = slotsOn board * coresOn board
 abbrev pub counterOn : List ℕ → ℕ → ℕ → ℕ
 counterOn board slot v = entryOn board slot v / 2
 
--- task v has a positive rate, within the work left, and stands on no earlier core of the slot
-unfoldable pub permittedOn : List ℕ → List ℕ → List ℕ → ℕ → ℕ → ℕ → ℕ → Bool
-permittedOn board t l first slot core v =
-    every (ltb 0 (rateOn board v core) ∷ leb (rateOn board v core) (nth l (counterOn board slot v)) ∷ freeOn t first core (v + 1) ∷ [])
+-- the cores, as bits, on which task v has a positive rate within so much work
+abbrev pub fitOn : List ℕ → ℕ → ℕ → ℕ
+fitOn board v w = nth board (16483 + (v * 16 + min w 15)) % 16
+
+-- the sets of the tasks v, v + 1, .., j of them, whose rate on a core is positive and within the work left in the slot
+unfoldable pub setsFrom : List ℕ → List ℕ → ℕ → ℕ → ℕ → ℕ
+setsFrom board l slot zero v = 0
+setsFrom board l slot (suc j) v = pushed (setsFrom board l slot j (suc v)) (fitOn board v (nth l (counterOn board slot v)))
+
+-- the same of all tasks
+abbrev pub setsOn : List ℕ → List ℕ → ℕ → ℕ
+setsOn board l slot = setsFrom board l slot (tasksOn board) 0
 
 -- the rank of the value on core j of the slot, if that is an earlier twin; else 0
 unfoldable pub twinRankOn : List ℕ → List ℕ → ℕ → ℕ → ℕ → ℕ
@@ -106,30 +111,30 @@ orElse Found r k = r
 orElse Nothing r k = k r
 orElse Stopped r k = r
 
--- a walk onward from a table and the work left, with some tries used
+-- a walk onward from the sets of the slot, a table and the work left, with some tries used
 abbrev pub Onward : Type 0
-Onward = List ℕ → List ℕ → ℕ → State
+Onward = ℕ → List ℕ → List ℕ → ℕ → State
 
 -- one more try, if the limit allows it
 abbrev pub oneMore : ℕ → List ℕ → List ℕ → ℕ → State → State
 oneMore limit t l u r = cond (eqb u limit) (state Stopped t l u) r
 
 -- the cell of core `core` in the slot: the values v + 1, v + 2, .., j of them, and then idle, with `barred` tasks seen that bar idle
-module _ (board : List ℕ) (limit first slot core : ℕ) (next : Onward) where
+module _ (board : List ℕ) (limit first slot core sets : ℕ) (next : Onward) where
   -- idle, if nothing bars it
   unfoldable pub idleLast : List ℕ → List ℕ → ℕ → ℕ → State
-  idleLast t l barred u = cond (eqb barred 0) (oneMore limit t l u (next (set t (first + core) 0) l (u + 1))) (state Nothing t l u)
+  idleLast t l barred u = cond (eqb barred 0) (oneMore limit t l u (next sets (set t (first + core) 0) l (u + 1))) (state Nothing t l u)
 
   -- task v put into the cell, and on from there
   unfoldable pub placed : List ℕ → List ℕ → ℕ → ℕ → State
   placed t l v u =
-      next (set t (first + core) (v + 1)) (set l (counterOn board slot v) (nth l (counterOn board slot v) - rateOn board v core)) (u + 1)
+      next (without sets v) (set t (first + core) (v + 1)) (set l (counterOn board slot v) (nth l (counterOn board slot v) - rateOn board v core)) (u + 1)
 
   -- the values in order, and idle last
   unfoldable pub tryFrom : ℕ → ℕ → List ℕ → List ℕ → ℕ → ℕ → ℕ → State
   tryFrom zero floor t l v barred u = idleLast t l barred u
   tryFrom (suc j) floor t l v barred u =
-      cond (permittedOn board t l first slot core v)
+      cond (has sets v core)
       (cond (leb floor (v + 1))
       (oneMore limit t l u
       (let r = placed t l v u in
@@ -139,27 +144,44 @@ module _ (board : List ℕ) (limit first slot core : ℕ) (next : Onward) where
 
 -- from core to core, and from the last core to the next slot, or to the table's end; `walk` goes on from a cell
 unfoldable pub closeThen : List ℕ → (ℕ → ℕ → ℕ → Onward) → ℕ → ℕ → ℕ → Onward
-closeThen board walk first slot core t l u =
-    cond (ltb core (coresOn board)) (walk first slot core t l u)
+closeThen board walk first slot core sets t l u =
+    cond (ltb core (coresOn board)) (walk first slot core sets t l u)
     (cond (closesOn board l slot)
-    (cond (ltb (slot + 1) (slotsOn board)) (walk (first + core) (slot + 1) 0 t l u) (state Found t l u))
+    (cond (ltb (slot + 1) (slotsOn board)) (walk (first + core) (slot + 1) 0 (setsOn board l (slot + 1)) t l u) (state Found t l u))
     (state Nothing t l u))
 
 -- the walk over the k cells left, from the cell of a core
 unfoldable pub walkOn : ℕ → List ℕ → ℕ → ℕ → ℕ → ℕ → Onward
-walkOn zero board limit first slot core t l u = state Nothing t l u
-walkOn (suc k) board limit first slot core t l u =
-    tryFrom board limit first slot core (closeThen board (walkOn k board limit) first slot (core + 1)) (tasksOn board) (floorOn board t first core) t l 0 0 u
+walkOn zero board limit first slot core sets t l u = state Nothing t l u
+walkOn (suc k) board limit first slot core sets t l u =
+    tryFrom board limit first slot core sets (closeThen board (walkOn k board limit) first slot (core + 1)) (tasksOn board) (floorOn board t first core) t l 0 0 u
 
--- where the walk stands: in a slot, whose first cell is `first`, of a board of at most 16 tasks, 4 cores and 1024 slots
-pub record Fits (board : List ℕ) (first slot : ℕ) : Type 0 where
+-- a board of at most 16 tasks, 4 cores and 1024 slots, and one of its slots
+pub record Fits (board : List ℕ) (slot : ℕ) : Type 0 where
   pub tasks : tasksOn board ≤ 16
   pub cores : coresOn board ≤ 4
   pub slots : slotsOn board ≤ 1024
-  pub first-is : first ≡ slot * coresOn board
   pub slot-in : slot < slotsOn board
 
--- a number, a table and the work left tell a state, whose tries are within the limit
+-- where the walk stands: place slot * 4 + core, with the sets of the tasks that may still stand in the slot
+pub record Stands (board : List ℕ) (place sets : ℕ) : Type 0 where
+  pub fits : Fits board (place / 4)
+  pub core-in : place % 4 < coresOn board
+  pub within : (v c : ℕ) → tasksOn board ≤ v → c < 4 → has sets v c ≡ false
+
+-- the first cell of the slot of a place
+abbrev pub firstOn : List ℕ → ℕ → ℕ
+firstOn board place = place / 4 * coresOn board
+
+-- the cells left after the cell of a place
+abbrev pub cellsLeft : List ℕ → ℕ → ℕ
+cellsLeft board place = cellsOn board - (firstOn board place + (place % 4 + 1))
+
+-- the tries are counted up to here
+abbrev pub full : ℕ
+full = 4294967295
+
+-- a number, a table and the work left tell a state, whose tries are counted
 pub record Leaves (limit : ℕ) (s : State) (r : ℕ) (t l : List ℕ) : Type 0 where
   pub answer : r ≡ packed (s .end) (s .tries)
   pub table : t ≡ s .table
@@ -167,9 +189,9 @@ pub record Leaves (limit : ℕ) (s : State) (r : ℕ) (t l : List ℕ) : Type 0 
   pub most : s .tries ≤ limit
 
 -- what a walk from a cell answers and leaves
-pub record Ran (board : List ℕ) (limit first slot core : ℕ) (t l : List ℕ) (u r : ℕ) (t′ l′ : List ℕ) : Type 0 where
-  pub leaves : Leaves limit (walkOn (cellsOn board - (first + core)) board limit first slot core t l u) r t′ l′
+pub record Ran (board : List ℕ) (place sets : ℕ) (t l : List ℕ) (u r : ℕ) (t′ l′ : List ℕ) : Type 0 where
+  pub leaves : Leaves full (walkOn (suc (cellsLeft board place)) board full (firstOn board place) (place / 4) (place % 4) sets t l u) r t′ l′
 
 -- the same after a cell, with the slot to close
-pub record Closed (board : List ℕ) (limit first slot core : ℕ) (t l : List ℕ) (u r : ℕ) (t′ l′ : List ℕ) : Type 0 where
-  pub leaves : Leaves limit (closeThen board (walkOn (cellsOn board - (first + core)) board limit) first slot core t l u) r t′ l′
+pub record Closed (board : List ℕ) (place sets : ℕ) (t l : List ℕ) (u r : ℕ) (t′ l′ : List ℕ) : Type 0 where
+  pub leaves : Leaves full (closeThen board (walkOn (cellsLeft board place) board full) (firstOn board place) (place / 4) (place % 4 + 1) sets t l u) r t′ l′

@@ -2,11 +2,15 @@
 //
 // The board holds what the walk reads: for slot t and task v at place t * 16 + v twice the number of the counter of the
 // task's job there, one more in the job's highest-numbered slot; then the rates, four a task; for rule A a 1 for each task
-// whose positive rates are equal; for rule B, four a core, a 1 for each earlier twin; the task count, the cores, the slots.
+// whose positive rates are equal; for rule B, four a core, a 1 for each earlier twin; the task count, the cores, the slots;
+// and for each task, by the work left up to 15, the cores on which its rate is positive and within it, as bits.
 // `left` has the work left of each job at its counter, and 0 at the counter of closed slots.
+// `sets` has the tasks that may still stand in the slot, for each core: worked out once a slot.
+// A call takes six numbers at most, since a seventh would pass through memory: slot and core are one place, and the tries
+// are counted up to the largest number in place of the limit.
 ghost use mathlib.Core.Path.{_≡_};
-ghost use Prim.Native.Nat.{_+_, _-_, _≤_, _<_};
-ghost use Rattle.walk.specs.Machine.{freeOn, counterOn, rateOn, permittedOn, twinRankOn, floorOn, settledOn, closesOn, Fits, Ran, Closed, tasksOn, coresOn};
+ghost use Prim.Native.Nat.{_+_, _-_, _≤_, _<_, min};
+ghost use Rattle.walk.specs.Machine.{counterOn, rateOn, fitOn, setsOn, twinRankOn, floorOn, settledOn, closesOn, Fits, Stands, Ran, Closed, tasksOn, coresOn};
 ghost use Rattle.laws.specs.Lists.{nth};
 ghost use lib.ListN.{set};
 
@@ -21,6 +25,11 @@ const TASKS: usize = 16480;
 const CORES: usize = 16481;
 
 const SLOTS: usize = 16482;
+
+const FITS: usize = 16483;
+
+// The tries are counted up to here.
+pub const FULL: u32 = 4294967295;
 
 // What a walk adds to its tries if it found a table, or was stopped: a number comes back in a register, a struct in memory.
 pub const FOUND: u64 = 4294967296;
@@ -41,23 +50,8 @@ fn byte(x: u8) -> usize
     x as usize
 }
 
-// Whether a value stands on none of the earlier cores of the slot that begins at cell `first`.
-fn free(table: &[u8; 4096], first: usize, core: usize, value: u8) -> bool
-    requires { ⌜ (core < 4) × (first + core ≤ 4096) ⌝ }
-    ensures { λ r. ⌜ r ≡ freeOn (now (table .entry)) first core value ⌝ }
-{
-    let mut j: usize = 0;
-    while j < core {
-        if table[first + j] == value {
-            return false;
-        }
-        j += 1;
-    }
-    true
-}
-
 // The counter of the work left of a task's job in a slot.
-fn counter(board: &[u16; 16483], slot: usize, task: usize) -> usize
+fn counter(board: &[u16; 16739], slot: usize, task: usize) -> usize
     requires { ⌜ (slot < 1024) × (task < 16) ⌝ }
     ensures { λ r. ⌜ (r ≡ counterOn (now (board .entry)) slot task) × (r < 32768) ⌝ }
 {
@@ -65,39 +59,45 @@ fn counter(board: &[u16; 16483], slot: usize, task: usize) -> usize
 }
 
 // The rate of a task on a core.
-fn rate(board: &[u16; 16483], task: usize, core: usize) -> u16
+fn rate(board: &[u16; 16739], task: usize, core: usize) -> u16
     requires { ⌜ (task < 16) × (core < 4) ⌝ }
     ensures { λ r. ⌜ r ≡ rateOn (now (board .entry)) task core ⌝ }
 {
     board[RATES + (task * 4 + core)]
 }
 
-// Whether a task may stand in the cell of a core.
-fn permitted(
-    board: &[u16; 16483],
-    table: &[u8; 4096],
-    left: &[u16; 32768],
-    first: usize,
-    slot: usize,
-    core: usize,
-    task: usize,
-) -> bool
-    requires { ⌜ (core < 4) × (first + core ≤ 4096) × (slot < 1024) × (task < 16) ⌝ }
-    ensures { λ r. ⌜ r ≡ permittedOn (now (board .entry)) (now (table .entry)) (now (left .entry)) first slot core task ⌝ }
+// So much work, or 15: the largest rate fits either.
+fn up_to_15(work: u16) -> usize
+    ensures { λ r. ⌜ (r ≡ min work 15) × (r ≤ 15) ⌝ }
 {
-    let rate = rate(board, task, core);
-    if rate == 0 {
-        return false;
+    if work < 15 { work as usize } else { 15 }
+}
+
+// The cores, as bits, on which a task has a positive rate within so much work.
+fn fit(board: &[u16; 16739], task: usize, work: u16) -> u64
+    requires { ⌜ task < 16 ⌝ }
+    ensures { λ r. ⌜ (r ≡ fitOn (now (board .entry)) task work) × (r < 16) ⌝ }
+{
+    (board[FITS + (task * 16 + up_to_15(work))] % 16) as u64
+}
+
+// The sets of the tasks that may stand in a slot, where nothing stands yet.
+fn enter(board: &[u16; 16739], left: &[u16; 32768], slot: usize) -> u64
+    requires { ⌜ (slot < 1024) × (tasksOn (now board) ≤ 16) ⌝ }
+    ensures { λ r. ⌜ r ≡ setsOn (now (board .entry)) (now (left .entry)) slot ⌝ }
+{
+    let mut task = wide(board[TASKS]);
+    let mut sets: u64 = 0;
+    while 0 < task {
+        task -= 1;
+        let work = left[counter(board, slot, task)];
+        sets = sets::pushed(sets, fit(board, task, work));
     }
-    let have = left[counter(board, slot, task)];
-    if have < rate {
-        return false;
-    }
-    free(table, first, core, (task + 1) as u8)
+    sets
 }
 
 // The rank of the value on core j of a slot, if that is an earlier twin of a core; else 0. Idle ranks last.
-fn twin_rank(board: &[u16; 16483], table: &[u8; 4096], first: usize, core: usize, j: usize) -> usize
+fn twin_rank(board: &[u16; 16739], table: &[u8; 4096], first: usize, core: usize, j: usize) -> usize
     requires { ⌜ (core < 4) × (j < core) × (first + core ≤ 4096) ⌝ }
     ensures { λ r. ⌜ (r ≡ twinRankOn (now (board .entry)) (now (table .entry)) first core j) × (r ≤ 65536) ⌝ }
 {
@@ -112,7 +112,7 @@ fn twin_rank(board: &[u16; 16483], table: &[u8; 4096], first: usize, core: usize
 }
 
 // The rank below which rule B bars a value: the highest on an earlier twin.
-fn floor(board: &[u16; 16483], table: &[u8; 4096], first: usize, core: usize) -> usize
+fn floor(board: &[u16; 16739], table: &[u8; 4096], first: usize, core: usize) -> usize
     requires { ⌜ (core < 4) × (first + core ≤ 4096) ⌝ }
     ensures { λ r. ⌜ r ≡ floorOn (now (board .entry)) (now (table .entry)) first core ⌝ }
 {
@@ -129,7 +129,7 @@ fn floor(board: &[u16; 16483], table: &[u8; 4096], first: usize, core: usize) ->
 }
 
 // Whether a task's job has no work left, if this is its highest-numbered slot.
-fn settled(board: &[u16; 16483], left: &[u16; 32768], slot: usize, task: usize) -> bool
+fn settled(board: &[u16; 16739], left: &[u16; 32768], slot: usize, task: usize) -> bool
     requires { ⌜ (slot < 1024) × (task < 16) ⌝ }
     ensures { λ r. ⌜ r ≡ settledOn (now (board .entry)) (now (left .entry)) slot task ⌝ }
 {
@@ -141,7 +141,7 @@ fn settled(board: &[u16; 16483], left: &[u16; 32768], slot: usize, task: usize) 
 }
 
 // Whether each job whose highest-numbered slot this is has no work left.
-fn closes(board: &[u16; 16483], left: &[u16; 32768], slot: usize) -> bool
+fn closes(board: &[u16; 16739], left: &[u16; 32768], slot: usize) -> bool
     requires { ⌜ (slot < 1024) × (tasksOn (now board) ≤ 16) ⌝ }
     ensures { λ r. ⌜ r ≡ closesOn (now (board .entry)) (now (left .entry)) slot ⌝ }
 {
@@ -156,13 +156,20 @@ fn closes(board: &[u16; 16483], left: &[u16; 32768], slot: usize) -> bool
     true
 }
 
+// The work left after a rate.
+fn less(work: u16, rate: u16) -> u16
+    ensures { λ r. ⌜ r ≡ work - rate ⌝ }
+{
+    if work < rate { 0 } else { work - rate }
+}
+
 // Takes a rate off a counter of work left, and gives what it was.
 fn put(left: &mut [u16; 32768], counter: usize, rate: u16) -> u16
-    requires { ⌜ (counter < 32768) × (rate ≤ nth (now left) counter) ⌝ }
+    requires { ⌜ counter < 32768 ⌝ }
     ensures { λ r. ⌜ (r ≡ nth (now (left .entry)) counter) × (now (left .exit) ≡ set (now (left .entry)) counter (nth (now (left .entry)) counter - rate)) ⌝ }
 {
     let had = left[counter];
-    left[counter] = had - rate;
+    left[counter] = less(had, rate);
     had
 }
 
@@ -174,77 +181,97 @@ fn take_back(left: &mut [u16; 32768], counter: usize, had: u16)
     left[counter] = had;
 }
 
-// Tries each value in the cell of a core, in order: the tasks, and then idle. What no call changes comes last.
-pub fn cell(
+// Tries each value in the cell of a place, in order: the tasks that may stand there, and then idle.
+fn cell(
     table: &mut [u8; 4096],
-    board: &[u16; 16483],
-    first: usize,
-    slot: usize,
-    core: usize,
-    tries: u32,
+    board: &[u16; 16739],
     left: &mut [u16; 32768],
-    limit: u32,
+    place: usize,
+    tries: u32,
+    sets: u64,
 ) -> u64
-    requires { ⌜ Fits (now board) first slot × (core < coresOn (now board)) × (tries ≤ limit) ⌝ }
-    ensures { λ r. ⌜ Ran (now (board .entry)) limit first slot core (now (table .entry)) (now (left .entry)) tries r (now (table .exit)) (now (left .exit)) ⌝ }
+    requires { ⌜ Stands (now board) place sets ⌝ }
+    ensures { λ r. ⌜ Ran (now (board .entry)) place sets (now (table .entry)) (now (left .entry)) tries r (now (table .exit)) (now (left .exit)) ⌝ }
 {
-    let n = wide(board[TASKS]);
+    let slot = place / 4;
+    let core = place % 4;
+    let first = slot * wide(board[CORES]);
     let floor = floor(board, table, first, core);
     let mut used = tries;
     let mut barred: usize = 0;
-    let mut task: usize = 0;
-    while task < n {
-        if permitted(board, table, left, first, slot, core, task) {
-            barred += wide(board[EVEN + task]);
-            if floor <= task + 1 {
-                if used == limit {
-                    return STOPPED + used as u64;
-                }
-                let counter = counter(board, slot, task);
-                let had = put(left, counter, rate(board, task, core));
-                table[first + core] = (task + 1) as u8;
-                let r = close_slot(table, board, first, slot, core + 1, used + 1, left, limit);
-                if FOUND <= r {
-                    return r;
-                }
-                take_back(left, counter, had);
-                used = r as u32;
+    let mut rest = sets::of_core(sets, core);
+    while rest != 0 {
+        let task = sets::lowest(rest);
+        rest = sets::without(rest, task);
+        barred += wide(board[EVEN + task]);
+        if floor <= task + 1 {
+            if used == FULL {
+                return STOPPED + used as u64;
             }
+            let counter = counter(board, slot, task);
+            let had = put(left, counter, rate(board, task, core));
+            table[first + core] = (task + 1) as u8;
+            let r = close_slot(
+                table,
+                board,
+                left,
+                place,
+                used + 1,
+                sets::without(sets, task),
+            );
+            if FOUND <= r {
+                return r;
+            }
+            take_back(left, counter, had);
+            used = r as u32;
         }
-        task += 1;
     }
     if barred != 0 {
         return used as u64;
     }
-    if used == limit {
+    if used == FULL {
         return STOPPED + used as u64;
     }
     table[first + core] = 0;
-    close_slot(table, board, first, slot, core + 1, used + 1, left, limit)
+    close_slot(table, board, left, place, used + 1, sets)
 }
 
-// After a core: the next core; after the last, where no job is starved, the next slot; after the last slot the table is found.
+// After the cell of a place: the next core; after the last, where no job is starved, the next slot; after the last slot the table is found.
 fn close_slot(
     table: &mut [u8; 4096],
-    board: &[u16; 16483],
-    first: usize,
-    slot: usize,
-    core: usize,
-    tries: u32,
+    board: &[u16; 16739],
     left: &mut [u16; 32768],
-    limit: u32,
+    place: usize,
+    tries: u32,
+    sets: u64,
 ) -> u64
-    requires { ⌜ Fits (now board) first slot × (0 < core) × (core ≤ coresOn (now board)) × (tries ≤ limit) ⌝ }
-    ensures { λ r. ⌜ Closed (now (board .entry)) limit first slot core (now (table .entry)) (now (left .entry)) tries r (now (table .exit)) (now (left .exit)) ⌝ }
+    requires { ⌜ Stands (now board) place sets ⌝ }
+    ensures { λ r. ⌜ Closed (now (board .entry)) place sets (now (table .entry)) (now (left .entry)) tries r (now (table .exit)) (now (left .exit)) ⌝ }
 {
-    if core < wide(board[CORES]) {
-        return cell(table, board, first, slot, core, tries, left, limit);
+    if place % 4 + 1 < wide(board[CORES]) {
+        return cell(table, board, left, place + 1, tries, sets);
     }
+    let slot = place / 4;
     if closes(board, left, slot) {
         if slot + 1 < wide(board[SLOTS]) {
-            return cell(table, board, first + core, slot + 1, 0, tries, left, limit);
+            let sets = enter(board, left, slot + 1);
+            return cell(table, board, left, (slot + 1) * 4, tries, sets);
         }
         return FOUND + tries as u64;
     }
     tries as u64
+}
+
+// The walk from the first cell.
+pub fn walk(
+    table: &mut [u8; 4096],
+    board: &[u16; 16739],
+    left: &mut [u16; 32768],
+    tries: u32,
+) -> u64
+    requires { ⌜ Fits (now board) 0 × (0 < coresOn (now board)) ⌝ }
+    ensures { λ r. ⌜ Ran (now (board .entry)) 0 (setsOn (now (board .entry)) (now (left .entry)) 0) (now (table .entry)) (now (left .entry)) tries r (now (table .exit)) (now (left .exit)) ⌝ }
+{
+    let sets = enter(board, left, 0);
+    cell(table, board, left, 0, tries, sets)
 }

@@ -29,8 +29,11 @@ element-write-board-2 c = search needs
 element-write-board-3 : tie.Need-element-write-board-3
 element-write-board-3 c = search needs
 
+fill-fits-requires : tie.Need-fill-fits-requires
+fill-fits-requires c κs = search needs
+
 returns : tie.Need-returns
-returns c = board-filled _ _ _ _ _ _ _ _ _ (c .before .before .before .before .before .before .before .before .fill-grid .ensures) (c .before .before .before .before .before .fill-rates .ensures) (c .before .before .before .fill-even .ensures) (c .before .fill-twins .ensures)
+returns c = board-filled _ _ _ _ _ _ _ _ _ _ (c .before .before .before .before .before .before .before .before .before .before .fill-grid .ensures) (c .before .before .before .before .before .before .before .fill-rates .ensures) (c .before .before .before .before .before .fill-even .ensures) (c .before .before .before .fill-twins .ensures) (c .fill-fits .ensures)
 
 pub fill-board-spec : {M : Type 1} → statement M
 fill-board-spec =
@@ -44,4 +47,5 @@ fill-board-spec =
     element-write-board
     element-write-board-2
     element-write-board-3
+    fill-fits-requires
     returns)

@@ -3,7 +3,7 @@
 use borrow.Author.Needs.{needs}
 use native.Mathlib.Omega.{arith}
 use Rattle.search.proofs.FillLaws.{sound-fits}
-use Rattle.search.proofs.BoardLaws.{none, found, stopped, walk-told}
+use Rattle.search.proofs.ToldLaws.{none, found, stopped, counted-up, walk-told}
 use Rattle.search.proofs.AnswerLaws.{few-cells, board-ready}
 use Rattle.search.proofs.walk_list.Statement.{statement}
 use Rattle.search.proofs.walk_list.Tie as tie
@@ -20,11 +20,17 @@ cast-n c = search needs
 mul-n : tie.Need-mul-n
 mul-n c = search needs
 
-cell-requires : tie.Need-cell-requires
-cell-requires c κs = let h = board-ready _ _ _ _ _ (c .before .before .before .before .before .before .before .before .before .before .pre .0) (c .before .before .before .before .before .before .before .before .before .before .pre .1) (c .before .before .before .before .before .before .before .fill-board .ensures) in (h .0, h .1, search needs)
+sub-start : tie.Need-sub-start
+sub-start c = search needs
+
+walk-requires : tie.Need-walk-requires
+walk-requires c κs = board-ready _ _ _ _ _ (c .before .before .before .before .before .before .before .before .before .before .pre .0) (c .before .before .before .before .before .before .before .before .before .before .pre .1) (c .before .before .before .before .before .before .before .fill-board .ensures)
 
 cast-tries : tie.Need-cast-tries
 cast-tries c = search needs
+
+sub-tries : tie.Need-sub-tries
+sub-tries c = counted-up _ _ _ _ _ (c .before .before .before .before .before .before .before .before .before .before .before .pre .0) (c .before .before .before .before .before .before .before .before .before .before .before .pre .1) (c .before .before .before .before .before .before .before .before .before .before .before .fits .limit .fits) _ _ (c .before .before .before .before .before .before .before .before .fill-board .ensures) (c .before .before .before .before .before .fill-left .ensures) _ _ _ (c .walk .ensures)
 
 clear-requires : tie.Need-clear-requires
 clear-requires c κs = search needs
@@ -33,7 +39,7 @@ same-length : tie.Need-same-length
 same-length c = search needs
 
 returns : tie.Need-returns
-returns c = walk-told _ _ _ _ _ _ (c .before .before .before .before .before .before .before .before .before .before .before .before .before .before .before .before .pre .0) (c .before .before .before .before .before .before .before .before .before .before .before .before .before .before .before .before .pre .1) (c .before .before .before .before .before .before .before .before .before .before .before .before .before .before .before .before .pre .3) (c .before .before .before .before .before .before .before .before .before .before .before .before .before .before .before .before .fits .limit .fits) _ _ (c .before .before .before .before .before .before .before .before .before .before .before .before .before .fill-board .ensures) (c .before .before .before .before .before .before .before .before .before .before .fill-left .ensures) _ _ _ (c .before .before .before .before .before .cell .ensures) _ _ (none (c .before .before .before .before .if1 .taken) (c .before .before .clear .ensures))
+returns c = walk-told _ _ _ _ _ (c .before .before .before .before .before .before .before .before .before .before .before .before .before .before .before .before .pre .0) (c .before .before .before .before .before .before .before .before .before .before .before .before .before .before .before .before .pre .1) (c .before .before .before .before .before .before .before .before .before .before .before .before .before .before .before .before .fits .limit .fits) _ _ (c .before .before .before .before .before .before .before .before .before .before .before .before .before .fill-board .ensures) (c .before .before .before .before .before .before .before .before .before .before .fill-left .ensures) _ _ _ (c .before .before .before .before .before .walk .ensures) _ (c .before .before .before .before .before .before .before .before .before .before .before .before .before .before .before .before .pre .3) _ _ (none (c .before .before .before .before .if1 .taken) (c .before .before .clear .ensures))
 
 hand-over-requires : tie.Need-hand-over-requires
 hand-over-requires c κs = (omega (arith, few-cells _ _ _ (c .before .before .before .before .before .before .before .before .before .before .before .before .before .before .before .pre .0) (c .before .before .before .before .before .before .before .before .before .before .before .before .before .before .before .pre .1)), search needs)
@@ -42,7 +48,7 @@ same-length-2 : tie.Need-same-length-2
 same-length-2 c = search needs
 
 returns-2 : tie.Need-returns-2
-returns-2 c = walk-told _ _ _ _ _ _ (c .before .before .before .before .before .before .before .before .before .before .before .before .before .before .before .before .before .before .pre .0) (c .before .before .before .before .before .before .before .before .before .before .before .before .before .before .before .before .before .before .pre .1) (c .before .before .before .before .before .before .before .before .before .before .before .before .before .before .before .before .before .before .pre .3) (c .before .before .before .before .before .before .before .before .before .before .before .before .before .before .before .before .before .before .fits .limit .fits) _ _ (c .before .before .before .before .before .before .before .before .before .before .before .before .before .before .before .fill-board .ensures) (c .before .before .before .before .before .before .before .before .before .before .before .before .fill-left .ensures) _ _ _ (c .before .before .before .before .before .before .before .cell .ensures) _ _ (found (c .before .before .before .before .before .before .if1 .left) (c .before .before .before .before .before .if2 .taken) (c .before .before .hand-over .ensures))
+returns-2 c = walk-told _ _ _ _ _ (c .before .before .before .before .before .before .before .before .before .before .before .before .before .before .before .before .before .before .pre .0) (c .before .before .before .before .before .before .before .before .before .before .before .before .before .before .before .before .before .before .pre .1) (c .before .before .before .before .before .before .before .before .before .before .before .before .before .before .before .before .before .before .fits .limit .fits) _ _ (c .before .before .before .before .before .before .before .before .before .before .before .before .before .before .before .fill-board .ensures) (c .before .before .before .before .before .before .before .before .before .before .before .before .fill-left .ensures) _ _ _ (c .before .before .before .before .before .before .before .walk .ensures) _ (c .before .before .before .before .before .before .before .before .before .before .before .before .before .before .before .before .before .before .pre .3) _ _ (found (c .before .before .before .before .before .before .if1 .left) (c .before .before .before .before .before .if2 .taken) (c .before .before .hand-over .ensures))
 
 clear-requires-2 : tie.Need-clear-requires-2
 clear-requires-2 c κs = search needs
@@ -51,7 +57,7 @@ same-length-3 : tie.Need-same-length-3
 same-length-3 c = search needs
 
 returns-3 : tie.Need-returns-3
-returns-3 c = walk-told _ _ _ _ _ _ (c .before .before .before .before .before .before .before .before .before .before .before .before .before .before .before .before .before .pre .0) (c .before .before .before .before .before .before .before .before .before .before .before .before .before .before .before .before .before .pre .1) (c .before .before .before .before .before .before .before .before .before .before .before .before .before .before .before .before .before .pre .3) (c .before .before .before .before .before .before .before .before .before .before .before .before .before .before .before .before .before .fits .limit .fits) _ _ (c .before .before .before .before .before .before .before .before .before .before .before .before .before .before .fill-board .ensures) (c .before .before .before .before .before .before .before .before .before .before .before .fill-left .ensures) _ _ _ (c .before .before .before .before .before .before .cell .ensures) _ _ (stopped (c .before .before .before .before .if2 .left) (c .before .before .clear2 .ensures))
+returns-3 c = walk-told _ _ _ _ _ (c .before .before .before .before .before .before .before .before .before .before .before .before .before .before .before .before .before .pre .0) (c .before .before .before .before .before .before .before .before .before .before .before .before .before .before .before .before .before .pre .1) (c .before .before .before .before .before .before .before .before .before .before .before .before .before .before .before .before .before .fits .limit .fits) _ _ (c .before .before .before .before .before .before .before .before .before .before .before .before .before .before .fill-board .ensures) (c .before .before .before .before .before .before .before .before .before .before .before .fill-left .ensures) _ _ _ (c .before .before .before .before .before .before .walk .ensures) _ (c .before .before .before .before .before .before .before .before .before .before .before .before .before .before .before .before .before .pre .3) _ _ (stopped (c .before .before .before .before .if2 .left) (c .before .before .clear2 .ensures))
 
 pub walk-list-spec : {M : Type 1} → statement M
 walk-list-spec =
@@ -61,8 +67,10 @@ walk-list-spec =
     fill-left-requires
     cast-n
     mul-n
-    cell-requires
+    sub-start
+    walk-requires
     cast-tries
+    sub-tries
     clear-requires
     same-length
     returns

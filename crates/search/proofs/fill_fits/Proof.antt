@@ -1,0 +1,61 @@
+-- `search::fill_fits` meets its contract. The loop's invariant: the marks passed stand on the board, and the rest is as it was.
+-- Assumes nothing.
+use Prim.Native.Nat.{_-_, _≤_}
+use mathlib.Core.Path.{_≡_}
+use borrow.Author.Needs.{needs}
+use native.Mathlib.Omega.{arith}
+use Rattle.laws.specs.Lists.{filled}
+use Rattle.laws.proofs.ListLaws.{filled-none, filled-next}
+use Rattle.search.specs.Board.{fitMark}
+use Rattle.search.proofs.FillLaws.{all-stored}
+use Rattle.search.proofs.fill_fits.Statement.{statement}
+use Rattle.search.proofs.fill_fits.Tie as tie
+
+abbrev Inv-loop : tie.InvT-loop
+Inv-loop board₀ rates x₀ board x = (x ≤ 256) × (board ≡ filled board₀ 16483 x (fitMark rates))
+
+abbrev μ-loop : tie.MeasureT-loop
+μ-loop board₀ rates x₀ board x = 256 - x
+
+loop-holds : tie.Need-loop-holds Inv-loop μ-loop
+loop-holds c = (search needs, filled-none _ _ _)
+
+fit-mark-requires : tie.Need-fit-mark-requires Inv-loop μ-loop
+fit-mark-requires c κs = search needs
+
+add-board : tie.Need-add-board Inv-loop μ-loop
+add-board c = search needs
+
+mul-board : tie.Need-mul-board Inv-loop μ-loop
+mul-board c = search needs
+
+element-write-board : tie.Need-element-write-board Inv-loop μ-loop
+element-write-board c = search needs
+
+add-x : tie.Need-add-x Inv-loop μ-loop
+add-x c = search needs
+
+loop-less : tie.Need-loop-less Inv-loop μ-loop
+loop-less c = search needs
+
+loop-again : tie.Need-loop-again Inv-loop μ-loop
+loop-again c = (search needs, filled-next _ _ _ _ _ _ (c .before .before .loop .inv .1) (c .fit-mark .ensures))
+
+returns : tie.Need-returns Inv-loop μ-loop
+returns c = all-stored _ _ _ _ _ _ (omega arith) (omega arith) (c .before .loop .inv .1)
+
+pub fill-fits-spec : {M : Type 1} → statement M
+fill-fits-spec =
+    tie.close
+    (tie.spec
+    Inv-loop
+    μ-loop
+    loop-holds
+    fit-mark-requires
+    add-board
+    mul-board
+    element-write-board
+    add-x
+    loop-less
+    loop-again
+    returns)
