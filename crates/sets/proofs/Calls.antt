@@ -1,0 +1,50 @@
+-- What a call of each public function ensures, as its contract says, and that it leaves one answer.
+-- Assumes nothing.
+use Prim.Native.Nat.{ℕ}
+use mathlib.Core.Path.{_≡_, refl}
+use Rattle.laws.proofs.Only.{Says, only}
+use Rattle.sets.specs.Sets.{ofCore, lowest, without, pushed}
+use Rattle.sets.proofs.of_core as of-core
+use Rattle.sets.proofs.lowest as lowest-task
+use Rattle.sets.proofs.without as without-task
+use Rattle.sets.proofs.pushed as pushed-cores
+
+-- ---- of_core
+abbrev pub OfCore : ℕ → ℕ → ℕ → Type 0
+OfCore sets core r = r ≡ ofCore sets core
+
+of-core-says : (κs sets core sets′ core′ r : _) → Says (λ M 𝓤 H A mem run. of-core.ensures-1 𝓤 H κs A mem run sets core sets′ core′ r) (OfCore sets core r)
+of-core-says κs sets core sets′ core′ r M 𝓤 H A mem run = refl
+
+pub of-core-only : (sets core r r′ : ℕ) → OfCore sets core r → OfCore sets core r′ → r ≡ r′
+of-core-only sets core r r′ = only
+
+-- ---- lowest
+abbrev pub Lowest : ℕ → ℕ → Type 0
+Lowest set r = r ≡ lowest set
+
+lowest-says : (κs set set′ r : _) → Says (λ M 𝓤 H A mem run. lowest-task.ensures-1 𝓤 H κs A mem run set set′ r) (Lowest set r)
+lowest-says κs set set′ r M 𝓤 H A mem run = refl
+
+pub lowest-only : (set r r′ : ℕ) → Lowest set r → Lowest set r′ → r ≡ r′
+lowest-only set r r′ = only
+
+-- ---- without
+abbrev pub Without : ℕ → ℕ → ℕ → Type 0
+Without sets task r = r ≡ without sets task
+
+without-says : (κs sets task sets′ task′ r : _) → Says (λ M 𝓤 H A mem run. without-task.ensures-1 𝓤 H κs A mem run sets task sets′ task′ r) (Without sets task r)
+without-says κs sets task sets′ task′ r M 𝓤 H A mem run = refl
+
+pub without-only : (sets task r r′ : ℕ) → Without sets task r → Without sets task r′ → r ≡ r′
+without-only sets task r r′ = only
+
+-- ---- pushed
+abbrev pub Pushed : ℕ → ℕ → ℕ → Type 0
+Pushed sets cores r = r ≡ pushed sets cores
+
+pushed-says : (κs sets cores sets′ cores′ r : _) → Says (λ M 𝓤 H A mem run. pushed-cores.ensures-1 𝓤 H κs A mem run sets cores sets′ cores′ r) (Pushed sets cores r)
+pushed-says κs sets cores sets′ cores′ r M 𝓤 H A mem run = refl
+
+pub pushed-only : (sets cores r r′ : ℕ) → Pushed sets cores r → Pushed sets cores r′ → r ≡ r′
+pushed-only sets cores r r′ = only
