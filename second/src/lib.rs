@@ -9,7 +9,6 @@ pub mod frames;
 pub mod lists;
 pub mod player;
 pub mod random;
-pub mod same_walk;
 pub mod tasks;
 pub mod verdict;
 pub mod walk;

@@ -1,5 +1,5 @@
-//! Times the proved walk, the same walk in ordinary Rust, and this program's own walk, which is laid
-//! out another way for speed, over the same lists in one process; then the checkers and the players.
+//! Times the proved walk and the same walk in ordinary Rust over the same lists in one process; then
+//! the checkers and the players.
 
 #[path = "../proved.rs"]
 #[allow(dead_code)] // the search, the checker and a step are timed
@@ -10,7 +10,7 @@ use second::player::{self, Record};
 use second::random::Random;
 use second::tasks::{Problem, Task, MOST_CELLS, MOST_CORES, MOST_SLOTS, MOST_TASKS};
 use second::verdict::Ending;
-use second::{same_walk, walk};
+use second::walk;
 use std::array::from_fn;
 use std::hint::black_box;
 use std::thread;
@@ -35,12 +35,8 @@ const LONG: usize = MOST_SLOTS;
 /// Searches, and gives the verdict and the tries.
 type Walk = fn(&Problem, &mut [u8]) -> (u32, u32);
 
-const WALKS: [Walk; 3] = [same, proved::search, fastest];
-const NAMES: [&str; 3] = [
-    "the same walk in ordinary Rust",
-    "the proved walk",
-    "the other layout",
-];
+const WALKS: [Walk; 2] = [ordinary, proved::search];
+const NAMES: [&str; 2] = ["ordinary Rust", "proved"];
 
 /// Makes a list by its number, with H as given.
 type Maker = fn(u64, usize) -> Problem;
@@ -57,7 +53,7 @@ fn main() {
     for (name, cost) in NAMES.into_iter().zip(all) {
         println!("  {name} {cost:.2}");
     }
-    println!("  ratio, proved / same {:.2}", all[1] / all[0]);
+    println!("  ratio {:.2}", all[1] / all[0]);
 
     let makers = [
         ("stretched", stretched as Maker),
@@ -99,12 +95,7 @@ fn main() {
     }
 }
 
-fn same(problem: &Problem, table: &mut [u8]) -> (u32, u32) {
-    let (ending, tries) = same_walk::search(problem, table);
-    (ending as u32, tries)
-}
-
-fn fastest(problem: &Problem, table: &mut [u8]) -> (u32, u32) {
+fn ordinary(problem: &Problem, table: &mut [u8]) -> (u32, u32) {
     let outcome = walk::search(problem, table).expect("the list is sound");
     (outcome.ending as u32, outcome.tries)
 }
@@ -112,7 +103,7 @@ fn fastest(problem: &Problem, table: &mut [u8]) -> (u32, u32) {
 /// The tries of a list, and the least time of each walk.
 struct Timed {
     tries: u32,
-    least: [Duration; 3],
+    least: [Duration; 2],
 }
 
 /// Times the walks over lists. Each round goes over all of them, so that they share good times and
@@ -120,12 +111,11 @@ struct Timed {
 fn timed(lists: &[Problem]) -> Vec<Timed> {
     let mut table = vec![0; MOST_CELLS];
     let warm_up = |problem| {
-        let [same, proved, fastest] = WALKS.map(|walk| walk(problem, &mut table));
-        assert_eq!(same, proved, "the walks end alike");
-        assert_eq!(same, fastest, "the walks end alike");
+        let [ordinary, proved] = WALKS.map(|walk| walk(problem, &mut table));
+        assert_eq!(ordinary, proved, "the walks end alike");
         Timed {
-            tries: same.1,
-            least: [Duration::MAX; 3],
+            tries: ordinary.1,
+            least: [Duration::MAX; 2],
         }
     };
     let mut all: Vec<Timed> = lists.iter().map(warm_up).collect();
@@ -143,7 +133,7 @@ fn timed(lists: &[Problem]) -> Vec<Timed> {
 }
 
 /// Nanoseconds per try of each walk, over all these lists together.
-fn cost(all: &[Timed]) -> [f64; 3] {
+fn cost(all: &[Timed]) -> [f64; 2] {
     let tries: u32 = all.iter().map(|timed| timed.tries).sum();
     from_fn(|walk| {
         let time: Duration = all.iter().map(|timed| timed.least[walk]).sum();
@@ -155,7 +145,7 @@ fn cost(all: &[Timed]) -> [f64; 3] {
 fn cells_checked() -> [f64; 2] {
     let problem = full_list();
     let mut table = vec![0; MOST_CELLS];
-    fastest(&problem, &mut table);
+    ordinary(&problem, &mut table);
     let checkers: [fn(&Problem, &[u8]) -> bool; 2] = [
         |problem, table| first_fault(problem, table) == Ok(None),
         |problem, table| proved::check(problem, table) == [0; 4],
@@ -234,7 +224,7 @@ fn stopped_lists(make: Maker, slots: usize) -> Vec<Problem> {
 }
 
 fn ends(problem: &Problem, ending: Ending) -> bool {
-    let (verdict, tries) = fastest(problem, &mut [0; MOST_CELLS]);
+    let (verdict, tries) = ordinary(problem, &mut [0; MOST_CELLS]);
     verdict == ending as u32 && tries >= LEAST_TRIES
 }
 
