@@ -1,9 +1,7 @@
 -- What a search tells of its walk, and what it leaves of the buffer.
 -- Assumes nothing.
 use Prim.Native.Nat.{ℕ, _≤_}
-use native.Mathlib.Omega.{arith}
-use mathlib.Core.Path.{_≡_, refl, ap, _∙_}
-use mathlib.Core.Logic.{_≢_}
+use mathlib.Core.Path.{_≡_, ap, _∙_}
 use mathlib.Core.List.{List}
 use lib.ListN.{length, take, drop, replicate, length-replicate}
 use lib.Seq.{take-at, drop-at}
@@ -14,8 +12,8 @@ use Rattle.tasks.specs.Refusal.{unless, orNext, refusal, IsSound}
 use Rattle.tasks.specs.Instance.{Regular}
 use Rattle.tasks.proofs.SoundLaws.{sound-list, length-whole, instance-regular}
 use Rattle.table.specs.Table.{cells}
-use Rattle.rules.specs.Walk.{Result, found, none, tries, ended, limited}
-use Rattle.rules.specs.Right.{ownInstance, Quicker}
+use Rattle.rules.specs.Walk.{limited}
+use Rattle.rules.specs.Right.{ownInstance}
 use Rattle.rules.specs.Search.{walked, told, searchRefusal, search}
 
 -- n cells written over the start of a buffer
@@ -35,35 +33,6 @@ zeros-take n t = over-take n (replicate n 0) t (length-replicate n 0)
 -- leave the rest as it is too
 pub zeros-drop : (n : ℕ) (t : List ℕ) → drop n (over (replicate n 0) t) ≡ drop n t
 zeros-drop n t = over-drop n (replicate n 0) t (length-replicate n 0)
-
-module _ (n : ℕ) (buffer : List ℕ) where
-  -- a walk that ended is not told as stopped
-  pub ended-verdict : (r : Result) → told n buffer (ended r) .verdict ≢ 14
-  unfolding told
-  ended-verdict (found t k) e = omega arith
-  ended-verdict (none k) e = omega arith
-
-  -- its tries are told
-  pub ended-tries : (r : Result) → told n buffer (ended r) .tries ≡ tries r
-  unfolding told
-  ended-tries (found t k) = refl
-  ended-tries (none k) = refl
-
-  -- walks with one table have one verdict
-  pub ended-same : (r' r : Result) → Quicker r' r → told n buffer (ended r') .verdict ≡ told n buffer (ended r) .verdict
-  unfolding told
-  ended-same (found t j) (found s k) q = refl
-  ended-same (found t j) (none k) q = cc
-  ended-same (none j) (found s k) q = cc
-  ended-same (none j) (none k) q = refl
-
-  -- and leave one buffer
-  pub ended-buffer : (r' r : Result) → Quicker r' r → told n buffer (ended r') .buffer ≡ told n buffer (ended r) .buffer
-  unfolding told
-  ended-buffer (found t j) (found s k) q = cc
-  ended-buffer (found t j) (none k) q = cc
-  ended-buffer (none j) (found s k) q = cc
-  ended-buffer (none j) (none k) q = refl
 
 -- where nothing is refused the search tells its walk under the limit
 pub search-told : (m : ℕ) (ts : List Task) (e b : ℕ) (buffer : List ℕ) → refusal m ts ≡ 0 → e ≤ 1 → cells (ownInstance m ts) ≤ length buffer

@@ -36,8 +36,8 @@ module _ (m : ℕ) (list : TaskList) (e b : ℕ) (t : List ℕ) (r : Answer) (t�
       → Searches (ownInstance m (rows list)) (walked e (ownInstance m (rows list))) b t (toldOf r t′)
   right sound engine room = rw call (searches m (rows list) e b t sound engine room)
 
--- demand 3: two calls on a sound list with the same limit, the quick and the plain
-pub same : (m : ℕ) (list : TaskList) (b : ℕ) (t : List ℕ) (q p : Answer) (u v : List ℕ) → Search list m 1 b t q u → Search list m 0 b t p v
-    → IsSound m (rows list) → cells (ownInstance m (rows list)) ≤ length t
-    → Agree (walked 1 (ownInstance m (rows list))) (walked 0 (ownInstance m (rows list))) b (toldOf q u) (toldOf p v)
-same m list b t q p u v quick plain sound room = rw (quick, plain) (agree m (rows list) b t sound room)
+-- demand 3: two calls on a sound list with the same limit, the quick and the plain, into any two buffers that are long enough
+pub same : (m : ℕ) (list : TaskList) (b : ℕ) (t t′ : List ℕ) (q p : Answer) (u v : List ℕ) → Search list m 1 b t q u → Search list m 0 b t′ p v
+    → IsSound m (rows list) → cells (ownInstance m (rows list)) ≤ length t → cells (ownInstance m (rows list)) ≤ length t′
+    → Agree (ownInstance m (rows list)) (walked 1 (ownInstance m (rows list))) (walked 0 (ownInstance m (rows list))) b (toldOf q u) (toldOf p v)
+same m list b t t′ q p u v quick plain sound room room′ = rw (quick, plain) (agree m (rows list) b t t′ sound room room′)
