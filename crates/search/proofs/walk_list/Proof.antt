@@ -30,7 +30,7 @@ cast-tries : tie.Need-cast-tries
 cast-tries c = search needs
 
 sub-tries : tie.Need-sub-tries
-sub-tries c = counted-up _ _ _ _ _ (c .before .before .before .before .before .before .before .before .before .before .before .pre .0) (c .before .before .before .before .before .before .before .before .before .before .before .pre .1) (c .before .before .before .before .before .before .before .before .before .before .before .fits .limit .fits) _ _ (c .before .before .before .before .before .before .before .before .fill-board .ensures) (c .before .before .before .before .before .fill-left .ensures) _ _ _ (c .walk .ensures)
+sub-tries c = omega (arith, counted-up _ _ _ _ _ (c .before .before .before .before .before .before .before .before .before .before .before .pre .0) (c .before .before .before .before .before .before .before .before .before .before .before .pre .1) (c .before .before .before .before .before .before .before .before .before .before .before .fits .limit .fits) _ _ (c .before .before .before .before .before .before .before .before .fill-board .ensures) (c .before .before .before .before .before .fill-left .ensures) _ _ _ (c .walk .ensures))
 
 clear-requires : tie.Need-clear-requires
 clear-requires c κs = search needs
