@@ -31,7 +31,7 @@ pub few-cells : (m : ℕ) (ts : List Task) (L : ℕ) → IsSound m ts → L ≡ 
 few-cells m ts L s e = let sound = sound-list m ts s in mul-le-mul {n₂ = 1024} {m₂ = 4} (omega arith) (sound .few-cores)
 
 -- its board
-pub board-ready : (m : ℕ) (list : TaskList) (e L : ℕ) (board : List ℕ) → IsSound m (rows list) → L ≡ tableLength (rows list) → board ≡ boardOf list m e L (replicate 16739 0)
+pub board-ready : (m : ℕ) (list : TaskList) (e L : ℕ) (board : List ℕ) → IsSound m (rows list) → L ≡ tableLength (rows list) → board ≡ boardOf list m e L (replicate 17763 0)
     → Fits board 0 × (0 < coresOn board)
 board-ready m list e L board s l eb =
     rw eb (board-fits m list e L s l, omega (arith, board-cores m list e L s l, sound-list m (rows list) s .some-core))

@@ -5,9 +5,9 @@ use native.Mathlib.Omega.{arith}
 use native.Mathlib.Nat.{div-le-self, zero-add, min-le-right}
 use mathlib.Core.Path.{_≡_, refl, sym, ap, ap₂, subst, _∙_}
 use mathlib.Core.Logic.{_≢_}
-use mathlib.Core.Bool.{_&&_}
+use mathlib.Core.Bool.{Bool, true, false, not, _&&_}
 use mathlib.Core.List.{List}
-use lib.Dec.{leb, ltb, eqb}
+use lib.Dec.{T, eqb, eqb→eq, leb, ltb}
 use borrow.Author.Tests.{lt-ltb}
 use lib.ListN.{length, set, replicate, length-replicate, getD-replicate, length-set}
 use lib.Arith.{digits-div, digits-mod}
@@ -15,7 +15,7 @@ use lib.Seq.{getD-set-same, getD-set-other}
 use Rattle.laws.specs.Sum.{gate, sum}
 use Rattle.laws.specs.Tests.{all}
 use Rattle.laws.specs.Lists.{nth, filled}
-use Rattle.laws.proofs.TestLaws.{all-same}
+use Rattle.laws.proofs.TestLaws.{all-same, all-at}
 use Rattle.laws.proofs.ListLaws.{filled-length, filled-at, filled-before, filled-behind}
 use Rattle.tasks.specs.declared.Task.{Task}
 use Rattle.tasks.specs.declared.TaskList.{TaskList}
@@ -31,7 +31,7 @@ use Rattle.rules.specs.Right.{ownInstance}
 use Rattle.sets.specs.Sets.{has}
 use Rattle.walk.specs.Machine.{tasksOn, coresOn, slotsOn, Fits}
 use Rattle.walk.specs.Ready.{Small, counterOf, entryOf, isQuick, Ready, Lefts}
-use Rattle.search.specs.Board.{Fit, entryFor, gridEntry, evenPair, evenWith, rowEven, evenMark, coresTwin, twinMark, fitMark, workAt, boardOf}
+use Rattle.search.specs.Board.{Fit, entryFor, gridEntry, evenPair, evenWith, rowEven, evenMark, coresTwin, twinMark, fitMark, endMark, workAt, unmarkedOf, boardOf}
 use Rattle.search.proofs.FitLaws.{mark-has, up-to-15}
 
 -- ---- the list's instance
@@ -64,7 +64,7 @@ module _ {m : ℕ} (list : TaskList) (s : SoundList m (rows list)) where
 -- ---- reading the board
 module _ (list : TaskList) (m e L : ℕ) (few : L ≤ 1024) where
   grid : List ℕ
-  grid = filled (replicate 16739 0) 0 (L * 16) (gridEntry list L)
+  grid = filled (replicate 17763 0) 0 (L * 16) (gridEntry list L)
 
   rated : List ℕ
   rated = filled grid 16384 64 (nth (list .rates))
@@ -76,35 +76,47 @@ module _ (list : TaskList) (m e L : ℕ) (few : L ≤ 1024) where
   twinned = filled evened 16464 16 (twinMark list e)
 
   board : List ℕ
-  board = boardOf list m e L (replicate 16739 0)
+  board = boardOf list m e L (replicate 17763 0)
 
-  grid-length : length grid ≡ 16739
+  grid-length : length grid ≡ 17763
   unfolding grid
-  grid-length = filled-length (replicate 16739 0) 0 (L * 16) (gridEntry list L) ∙ length-replicate {A = ℕ} 16739 0
+  grid-length = filled-length (replicate 17763 0) 0 (L * 16) (gridEntry list L) ∙ length-replicate {A = ℕ} 17763 0
 
-  rated-length : length rated ≡ 16739
+  rated-length : length rated ≡ 17763
   unfolding rated
   rated-length = filled-length grid 16384 64 (nth (list .rates)) ∙ grid-length
 
-  evened-length : length evened ≡ 16739
+  evened-length : length evened ≡ 17763
   unfolding evened
   evened-length = filled-length rated 16448 16 (evenMark list m e) ∙ rated-length
 
-  twinned-length : length twinned ≡ 16739
+  twinned-length : length twinned ≡ 17763
   unfolding twinned
   twinned-length = filled-length evened 16464 16 (twinMark list e) ∙ evened-length
 
   sized : List ℕ
   sized = set (set (set twinned 16480 (list .n)) 16481 m) 16482 L
 
-  sized-length : length sized ≡ 16739
+  sized-length : length sized ≡ 17763
   unfolding sized
   sized-length = rw (length-set, length-set, length-set, twinned-length)
 
+  unmarked : List ℕ
+  unmarked = unmarkedOf list m e L (replicate 17763 0)
+
+  unmarked-length : length unmarked ≡ 17763
+  unfolding unmarked unmarkedOf sized twinned evened rated grid
+  unmarked-length = filled-length sized 16483 256 (fitMark (list .rates)) ∙ sized-length
+
+  -- below the marks of ends
+  below-ends : (x : ℕ) → x < 16739 → nth board x ≡ nth unmarked x
+  unfolding board boardOf unmarked
+  below-ends x l = filled-before unmarked 16739 L (endMark unmarked (list .n)) x l
+
   -- below the marks of fitting rates
   below-fits : (x : ℕ) → x < 16483 → nth board x ≡ nth sized x
-  unfolding board boardOf sized twinned evened rated grid
-  below-fits x l = filled-before sized 16483 256 (fitMark (list .rates)) x l
+  unfolding unmarked unmarkedOf sized twinned evened rated grid
+  below-fits x l = below-ends x (omega arith) ∙ filled-before sized 16483 256 (fitMark (list .rates)) x l
 
   -- below the three numbers
   below-sizes : (x : ℕ) → x < 16480 → nth board x ≡ nth twinned x
@@ -140,7 +152,7 @@ module _ (list : TaskList) (m e L : ℕ) (few : L ≤ 1024) where
       ∙ filled-before rated 16448 16 (evenMark list m e) x (omega arith)
       ∙ filled-before grid 16384 64 (nth (list .rates)) x (omega arith)
       ∙ ap (nth grid) (omega arith)
-      ∙ filled-at (replicate 16739 0) 0 (L * 16) (gridEntry list L) x l (rw (length-replicate {A = ℕ} 16739 0) (omega arith))
+      ∙ filled-at (replicate 17763 0) 0 (L * 16) (gridEntry list L) x l (rw (length-replicate {A = ℕ} 17763 0) (omega arith))
 
   at-rates : (x : ℕ) → x < 64 → nth board (16384 + x) ≡ nth (list .rates) x
   unfolding twinned evened rated
@@ -160,8 +172,19 @@ module _ (list : TaskList) (m e L : ℕ) (few : L ≤ 1024) where
   at-twins x l = below-sizes (16464 + x) (omega arith) ∙ filled-at evened 16464 16 (twinMark list e) x l (rw evened-length (omega arith))
 
   at-fits : (x : ℕ) → x < 256 → nth board (16483 + x) ≡ fitMark (list .rates) x
-  unfolding board boardOf sized twinned evened rated grid
-  at-fits x l = filled-at sized 16483 256 (fitMark (list .rates)) x l (rw sized-length (omega arith))
+  unfolding unmarked unmarkedOf sized twinned evened rated grid
+  at-fits x l = below-ends (16483 + x) (omega arith) ∙ filled-at sized 16483 256 (fitMark (list .rates)) x l (rw sized-length (omega arith))
+
+  -- where the mark is 0, no entry of the slot is odd
+  at-ends : (t v : ℕ) → t < L → v < list .n → list .n ≤ 16 → nth board (16739 + t) ≡ 0 → nth board (t * 16 + v) % 2 ≡ 0
+  unfolding board boardOf unmarked endMark gate
+  at-ends t v lt lv ln z = ap (λ x. x % 2) (below-ends (t * 16 + v) (omega arith))
+      ∙ eqb→eq _ 0 (all-at (list .n) _ (unmarked-slot (all (list .n) (λ v. eqb (nth unmarked (t * 16 + v) % 2) 0))
+      (sym (filled-at unmarked 16739 L (endMark unmarked (list .n)) t lt (rw unmarked-length (omega arith))) ∙ z)) v lv)
+    where
+      unmarked-slot : (b : Bool) → gate (not b) 1 ≡ 0 → T b
+      unmarked-slot true h = tt
+      unmarked-slot false h = absurd (omega arith)
 
 -- ---- the list's rates
 -- the rate on a core, in the flat list
@@ -206,7 +229,7 @@ module _ {m : ℕ} (list : TaskList) (s : SoundList m (rows list)) (e : ℕ) whe
       ap₂ eqb (sym (ap (λ τ. rate τ a) (k .1) ∙ row-at list v a la)) (sym (ap (λ τ. rate τ b) (k .1) ∙ row-at list v b lb))))
 
   -- the board is ready for the instance
-  pub board-ready : Ready (ownInstance m (rows list)) e (boardOf list m e (tableLength (rows list)) (replicate 16739 0))
+  pub board-ready : Ready (ownInstance m (rows list)) e (boardOf list m e (tableLength (rows list)) (replicate 17763 0))
   unfolding board instanceOf evenMark
   board-ready = record {
     slots = at-slots list m e (tableLength (rows list)) (s .few-slots);
@@ -216,6 +239,8 @@ module _ {m : ℕ} (list : TaskList) (s : SoundList m (rows list)) (e : ℕ) whe
         at-grid list m e (tableLength (rows list)) (s .few-slots) (t * 16 + v) (omega (arith, rows-length list, s .few-tasks))
         ∙ grid-at list (tableLength (rows list)) t v (omega (arith, rows-length list, s .few-tasks)) (k .0)
         ∙ ap (λ τ. entryFor (tableLength (rows list)) τ (suc v) t) (sym (k .1)) ∙ entry-same (tableLength (rows list)) m (rows list) (suc v) t;
+    ends = λ t v lt lv z. let k = is-task v lv in
+        at-ends list m e (tableLength (rows list)) (s .few-slots) t v lt (k .0) (omega (arith, rows-length list, s .few-tasks)) z;
     rates = λ v j lv lj. let k = is-task v lv in
         at-rates list m e (tableLength (rows list)) (s .few-slots) (v * 4 + j) (omega (arith, rows-length list, s .few-tasks, s .few-cores))
         ∙ sym (ap (λ τ. rate τ j) (k .1) ∙ row-at list v j (omega (arith, s .few-cores)));
@@ -235,7 +260,7 @@ module _ {m : ℕ} (list : TaskList) (s : SoundList m (rows list)) (e : ℕ) whe
   }
 
   -- and the walk stands at its start
-  start-fits : Fits (boardOf list m e (tableLength (rows list)) (replicate 16739 0)) 0
+  start-fits : Fits (boardOf list m e (tableLength (rows list)) (replicate 17763 0)) 0
   unfolding instanceOf
   start-fits = record {
     tasks = omega (arith, board-ready .tasks, s .few-tasks);
@@ -266,9 +291,9 @@ module _ {m : ℕ} (list : TaskList) (s : SoundList m (rows list)) (e : ℕ) whe
 
 -- the board of a sound list
 module _ (m : ℕ) (list : TaskList) (e L : ℕ) (sound : IsSound m (rows list)) (eL : L ≡ tableLength (rows list)) where
-  pub board-fits : Fits (boardOf list m e L (replicate 16739 0)) 0
+  pub board-fits : Fits (boardOf list m e L (replicate 17763 0)) 0
   board-fits = rw eL (start-fits list (sound-list m (rows list) sound) e)
 
-  pub board-cores : coresOn (boardOf list m e L (replicate 16739 0)) ≡ m
+  pub board-cores : coresOn (boardOf list m e L (replicate 17763 0)) ≡ m
   unfolding instanceOf
   board-cores = rw eL (board-ready list (sound-list m (rows list) sound) e .cores)

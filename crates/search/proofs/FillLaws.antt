@@ -3,7 +3,7 @@
 use Prim.Native.Nat.{ℕ, zero, suc, _+_, _*_, _/_, _%_, _≤_, _<_}
 use mathlib.Core.Path.{_≡_, refl, sym, ap, _∙_}
 use mathlib.Core.Logic.{_≢_}
-use mathlib.Core.Bool.{Bool, true, false, _&&_}
+use mathlib.Core.Bool.{Bool, true, false, not, _&&_}
 use mathlib.Core.List.{List}
 use native.Mathlib.Omega.{arith}
 use native.Mathlib.Nat.{zero-add, mul-le-mul-left}
@@ -13,8 +13,8 @@ use borrow.Author.Tests.{lt-ltb, le-ltb, eq-eqb, ne-eqb}
 use Rattle.laws.specs.Sum.{gate}
 use Rattle.laws.specs.Tests.{all}
 use Rattle.laws.specs.Lists.{nth, filled}
-use Rattle.laws.proofs.TestLaws.{all-false, all-true}
-use Rattle.laws.proofs.ListLaws.{filled-next}
+use Rattle.laws.proofs.TestLaws.{all-false, all-true, all-same}
+use Rattle.laws.proofs.ListLaws.{filled-before, filled-next}
 use Rattle.tasks.specs.declared.Task.{Task}
 use Rattle.tasks.specs.declared.TaskList.{TaskList}
 use Rattle.tasks.specs.declared.Window.{Window}
@@ -25,7 +25,7 @@ use Rattle.tasks.specs.Window.{isOpen, jobAt, lastSlot, openIf, windowAt}
 use Rattle.tasks.proofs.WindowLaws.{pos-T, job-lt}
 use Rattle.tasks.proofs.SoundLaws.{rows-length, rows-task, SoundList, sound-list, length-whole, sound-cyclic}
 use Rattle.walk.specs.Ready.{isQuick}
-use Rattle.search.specs.Board.{Fit, entryFor, gridEntry, evenPair, rowEven, evenMark, twinMark, fitMark, boardOf}
+use Rattle.search.specs.Board.{Fit, entryFor, gridEntry, evenPair, rowEven, evenMark, twinMark, fitMark, endMark, unmarkedOf, boardOf}
 
 -- ---- places stored one after the other
 module _ (s : List ℕ) (g : ℕ → ℕ) where
@@ -157,11 +157,28 @@ module _ (e : ℕ) (b : Bool) where
       go (suc e) x = rw (← h, t)
 
 -- ---- the board
-pub board-filled : (list : TaskList) (m e L : ℕ) (s grid rates evens twins fits : List ℕ) → grid ≡ filled s 0 (L * 16) (gridEntry list L)
+pub board-filled : (list : TaskList) (m e L : ℕ) (s grid rates evens twins fits ends : List ℕ) → grid ≡ filled s 0 (L * 16) (gridEntry list L)
     → rates ≡ filled grid 16384 64 (nth (list .rates)) → evens ≡ filled rates 16448 16 (evenMark list m e) → twins ≡ filled evens 16464 16 (twinMark list e)
-    → fits ≡ filled (set (set (set twins 16480 (list .n)) 16481 m) 16482 L) 16483 256 (fitMark (list .rates)) → fits ≡ boardOf list m e L s
-unfolding boardOf
-board-filled list m e L s grid rates evens twins fits eg er ee et ef = rw (ef, et, ee, er, eg)
+    → fits ≡ filled (set (set (set twins 16480 (list .n)) 16481 m) 16482 L) 16483 256 (fitMark (list .rates)) → ends ≡ filled fits 16739 L (endMark fits (list .n)) → ends ≡ boardOf list m e L s
+unfolding boardOf unmarkedOf
+board-filled list m e L s grid rates evens twins fits ends eg er ee et ef en = rw (en, ef, et, ee, er, eg)
+
+-- ---- the slots in which jobs end
+module _ (board : List ℕ) (n t : ℕ) where
+  -- one does
+  pub one-ends : (v : ℕ) → v < n → nth board (t * 16 + v) % 2 ≢ 0 → 1 ≡ endMark board n t
+  unfolding endMark gate
+  one-ends v l x = rw (all-false n (λ v. eqb (nth board (t * 16 + v) % 2) 0) v l (ne-eqb _ 0 x))
+
+  -- none does
+  pub none-ends : ((v : ℕ) → v < n → nth board (t * 16 + v) % 2 ≡ 0) → 0 ≡ endMark board n t
+  unfolding endMark gate
+  none-ends h = rw (all-true n (λ v. eqb (nth board (t * 16 + v) % 2) 0) (λ v l. eq-eqb _ 0 (h v l)))
+
+-- the marks filled in before change none
+pub ends-same : (board now : List ℕ) (n k t r : ℕ) → n ≤ 16 → t < 1024 → now ≡ filled board 16739 k (endMark board n) → r ≡ endMark now n t → r ≡ endMark board n t
+unfolding endMark
+ends-same board now n k t r ln lt e h = h ∙ ap (λ b. gate (not b) 1) (all-same n _ _ (λ v l. ap (λ x. eqb (x % 2) 0) (ap (λ b. nth b (t * 16 + v)) e ∙ filled-before board 16739 k (endMark board n) (t * 16 + v) (omega arith))))
 
 -- what a sound list has for the board
 pub sound-fits : (list : TaskList) (m L : ℕ) → IsSound m (rows list) → L ≡ tableLength (rows list)

@@ -132,7 +132,7 @@ module _ (n u r : ℕ) (t l buffer buffer′ : List ℕ) (s : State) (h : Leaves
 
 -- ---- the walk on the filled arrays, from as many tries as leave b
 module _ (m : ℕ) (list : TaskList) (e b L : ℕ) (sound : IsSound m (rows list)) (eL : L ≡ tableLength (rows list)) (lb : b < 4294967296)
-    (board left : List ℕ) (eb : board ≡ boardOf list m e L (replicate 16739 0)) (el : left ≡ filled (replicate 32768 0) 0 16384 (workAt (list .work))) where
+    (board left : List ℕ) (eb : board ≡ boardOf list m e L (replicate 17763 0)) (el : left ≡ filled (replicate 32768 0) 0 16384 (workAt (list .work))) where
   -- what the list has
   sound-parts : SoundList m (rows list)
   sound-parts = sound-list m (rows list) sound
@@ -143,7 +143,7 @@ module _ (m : ℕ) (list : TaskList) (e b L : ℕ) (sound : IsSound m (rows list
 
   -- the board is the instance's
   ready : Ready (ownInstance m (rows list)) e board
-  ready = subst (Ready (ownInstance m (rows list)) e) (sym (eb ∙ ap (λ n. boardOf list m e n (replicate 16739 0)) eL)) (board-ready list sound-parts e)
+  ready = subst (Ready (ownInstance m (rows list)) e) (sym (eb ∙ ap (λ n. boardOf list m e n (replicate 17763 0)) eL)) (board-ready list sound-parts e)
 
   -- and the walk goes over its cells
   size : suc (cellsLeft board 0) ≡ tableLength (rows list) * m

@@ -1,7 +1,7 @@
 -- What the search puts on the board, and what it tells.
 -- Assumes nothing.
 use Prim.Native.Nat.{ℕ, suc, _+_, _*_, _/_, _%_, _≤_}
-use mathlib.Core.Bool.{Bool, cond, _&&_}
+use mathlib.Core.Bool.{Bool, cond, not, _&&_}
 use mathlib.Core.List.{List}
 use lib.Dec.{leb, ltb, eqb}
 use lib.ListN.{set}
@@ -75,12 +75,20 @@ fitMark rates x =
 abbrev pub workAt : List ℕ → ℕ → ℕ
 workAt work x = nth work (x % 16)
 
--- the board for a list on m cores in L slots, by engine e
-unfoldable pub boardOf : TaskList → ℕ → ℕ → ℕ → List ℕ → List ℕ
-boardOf list m e L s =
+-- 1 if a job has its highest-numbered slot in this slot of the grid
+unfoldable pub endMark : List ℕ → ℕ → ℕ → ℕ
+endMark grid n t = gate (not (all n (λ v. eqb (nth grid (t * 16 + v) % 2) 0))) 1
+
+-- the board for a list on m cores in L slots, by engine e, but for the marks of ends
+unfoldable pub unmarkedOf : TaskList → ℕ → ℕ → ℕ → List ℕ → List ℕ
+unmarkedOf list m e L s =
     filled (set (set (set
     (filled (filled (filled (filled s 0 (L * 16) (gridEntry list L)) 16384 64 (nth (list .rates))) 16448 16 (evenMark list m e)) 16464 16 (twinMark list e))
     16480 (list .n)) 16481 m) 16482 L) 16483 256 (fitMark (list .rates))
+
+-- the whole board
+unfoldable pub boardOf : TaskList → ℕ → ℕ → ℕ → List ℕ → List ℕ
+boardOf list m e L s = filled (unmarkedOf list m e L s) 16739 L (endMark (unmarkedOf list m e L s) (list .n))
 
 -- a refusal reports 0 tries
 abbrev pub refusedBy : ℕ → Answer

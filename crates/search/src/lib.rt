@@ -7,7 +7,7 @@ ghost use Rattle.laws.specs.Lists.{nth, filled};
 ghost use Rattle.tasks.specs.Task.{taskAt, rows};
 ghost use Rattle.tasks.specs.Refusal.{IsSound, tableLength};
 ghost use Rattle.rules.specs.Search.{search as searchOf};
-ghost use Rattle.search.specs.Board.{Fit, entryFor, gridEntry, rowEven, evenPair, evenWith, evenMark, coresTwin, twinMark, fitBit, fitMark, workAt, boardOf, walkTold, refusedBy, toldOf};
+ghost use Rattle.search.specs.Board.{Fit, entryFor, gridEntry, rowEven, evenPair, evenWith, evenMark, coresTwin, twinMark, fitBit, fitMark, endMark, workAt, boardOf, walkTold, refusedBy, toldOf};
 use tasks::Rates;
 use tasks::Slots;
 use tasks::Soundness;
@@ -28,6 +28,8 @@ const CORES: usize = 16481;
 const SLOTS: usize = 16482;
 
 const FITS: usize = 16483;
+
+const ENDS: usize = 16739;
 
 // Twice the counter of closed slots.
 const CLOSED: u16 = 32768;
@@ -71,7 +73,7 @@ fn grid_entry(list: TaskList, len: Slots, x: usize) -> u16
 }
 
 // The grid, slot by slot.
-fn fill_grid(board: &mut [u16; 16739], list: TaskList, len: Slots)
+fn fill_grid(board: &mut [u16; 17763], list: TaskList, len: Slots)
     requires { ⌜ (list .n ≤ 16) × (len .0 ≤ 1024) × ((k : ℕ) → k < list .n → Fit (len .0) (taskAt list k)) ⌝ }
     ensures { λ _. ⌜ now (board .exit) ≡ filled (now (board .entry)) 0 (len .0 * 16) (gridEntry list (len .0)) ⌝ }
 {
@@ -84,7 +86,7 @@ fn fill_grid(board: &mut [u16; 16739], list: TaskList, len: Slots)
 }
 
 // The rates, four a task.
-fn fill_rates(board: &mut [u16; 16739], rates: [u8; 64])
+fn fill_rates(board: &mut [u16; 17763], rates: [u8; 64])
     ensures { λ _. ⌜ now (board .exit) ≡ filled (now (board .entry)) 16384 64 (nth rates) ⌝ }
 {
     let mut x: usize = 0;
@@ -158,7 +160,7 @@ fn even_mark(list: TaskList, m: u8, engine: u8, v: usize) -> u16
     if even_rates(rates, m as usize) { 1 } else { 0 }
 }
 
-fn fill_even(board: &mut [u16; 16739], list: TaskList, m: u8, engine: u8)
+fn fill_even(board: &mut [u16; 17763], list: TaskList, m: u8, engine: u8)
     requires { ⌜ m ≤ 4 ⌝ }
     ensures { λ _. ⌜ now (board .exit) ≡ filled (now (board .entry)) 16448 16 (evenMark list m engine) ⌝ }
 {
@@ -200,7 +202,7 @@ fn twin_mark(list: TaskList, engine: u8, x: usize) -> u16
     }
 }
 
-fn fill_twins(board: &mut [u16; 16739], list: TaskList, engine: u8)
+fn fill_twins(board: &mut [u16; 17763], list: TaskList, engine: u8)
     requires { ⌜ list .n ≤ 16 ⌝ }
     ensures { λ _. ⌜ now (board .exit) ≡ filled (now (board .entry)) 16464 16 (twinMark list engine) ⌝ }
 {
@@ -234,7 +236,7 @@ fn fit_mark(rates: [u8; 64], x: usize) -> u16
         + 8 * fit_bit(rates[k + 3], work)
 }
 
-fn fill_fits(board: &mut [u16; 16739], rates: [u8; 64])
+fn fill_fits(board: &mut [u16; 17763], rates: [u8; 64])
     ensures { λ _. ⌜ now (board .exit) ≡ filled (now (board .entry)) 16483 256 (fitMark rates) ⌝ }
 {
     let mut x: usize = 0;
@@ -244,8 +246,36 @@ fn fill_fits(board: &mut [u16; 16739], rates: [u8; 64])
     }
 }
 
+// A 1 if a job has its highest-numbered slot in this slot of the grid.
+fn end_mark(board: &[u16; 17763], n: usize, slot: usize) -> u16
+    requires { ⌜ (n ≤ 16) × (slot < 1024) ⌝ }
+    ensures { λ r. ⌜ r ≡ endMark (now (board .entry)) n slot ⌝ }
+{
+    let mut v: usize = 0;
+    while v < n {
+        if board[slot * 16 + v] % 2 != 0 {
+            return 1;
+        }
+        v += 1;
+    }
+    0
+}
+
+// The marks of the slots in which jobs end, by the grid.
+fn fill_ends(board: &mut [u16; 17763], n: usize, slots: usize)
+    requires { ⌜ (n ≤ 16) × (slots ≤ 1024) ⌝ }
+    ensures { λ _. ⌜ now (board .exit) ≡ filled (now (board .entry)) 16739 slots (endMark (now (board .entry)) n) ⌝ }
+{
+    let mut slot: usize = 0;
+    while slot < slots {
+        let mark = end_mark(board, n, slot);
+        board[ENDS + slot] = mark;
+        slot += 1;
+    }
+}
+
 // The board of a sound list.
-fn fill_board(board: &mut [u16; 16739], list: TaskList, m: u8, engine: u8, len: Slots)
+fn fill_board(board: &mut [u16; 17763], list: TaskList, m: u8, engine: u8, len: Slots)
     requires { ⌜ (list .n ≤ 16) × (m ≤ 4) × (len .0 ≤ 1024) × ((k : ℕ) → k < list .n → Fit (len .0) (taskAt list k)) ⌝ }
     ensures { λ _. ⌜ now (board .exit) ≡ boardOf list m engine (len .0) (now (board .entry)) ⌝ }
 {
@@ -258,6 +288,7 @@ fn fill_board(board: &mut [u16; 16739], list: TaskList, m: u8, engine: u8, len: 
     board[CORES] = m as u16;
     board[SLOTS] = len.0;
     fill_fits(board, rates);
+    fill_ends(board, list.n as usize, len.0 as usize);
 }
 
 // Each job's work, sixteen counters a job number.
@@ -313,7 +344,7 @@ fn walk_list(list: TaskList, m: u8, engine: u8, limit: u32, len: Slots, table: &
     requires { ⌜ IsSound m (rows list) × (len .0 ≡ tableLength (rows list)) × (engine ≤ 1) × (len .0 * m ≤ length (now table)) ⌝ }
     ensures { λ r. ⌜ toldOf r (now (table .exit)) ≡ walkTold m (rows list) engine limit (now (table .entry)) ⌝ }
 {
-    let mut board = [0; 16739];
+    let mut board = [0; 17763];
     let mut left = [0; 32768];
     let mut cells = [0; 4096];
     fill_board(&mut board, list, m, engine, len);

@@ -17,7 +17,7 @@ use Rattle.laws.specs.Order.{rankOf}
 use Rattle.laws.proofs.TestLaws.{all-false, all-true}
 use Rattle.sets.specs.Sets.{has, pushed}
 use Rattle.sets.proofs.SetLaws.{none-has, pushed-first, pushed-next, pushed-lt}
-use Rattle.walk.specs.Machine.{most, entryOn, twinOn, tasksOn, counterOn, fitOn, setsFrom, setsOn, twinRankOn, floorOn, settledOn, closesOn}
+use Rattle.walk.specs.Machine.{most, entryOn, endsOn, twinOn, tasksOn, counterOn, fitOn, setsFrom, setsOn, twinRankOn, floorOn, settledOn, closesOn}
 
 -- ---- the highest rank
 -- one core more
@@ -36,13 +36,19 @@ unfolding floorOn
 floor-is board t first core j m e h = h ∙ ap (λ n. most n (twinRankOn board t first core)) e
 
 -- ---- a slot that closes
-pub closes-not : (board l : List ℕ) (slot v : ℕ) (r : Bool) → v < tasksOn board → r ≡ settledOn board l slot v → r ≡ false → false ≡ closesOn board l slot
+-- no job ends in it
+pub closes-none : (board l : List ℕ) (slot : ℕ) → endsOn board slot ≡ 0 → true ≡ closesOn board l slot
 unfolding closesOn
-closes-not board l slot v r h e f = sym (all-false (tasksOn board) (settledOn board l slot) v h (sym e ∙ f))
+closes-none board l slot z = rw (eq-eqb (endsOn board slot) 0 z)
 
-pub closes-yes : (board l : List ℕ) (slot n : ℕ) → n ≡ tasksOn board → ((v : ℕ) → v < n → settledOn board l slot v ≡ true) → true ≡ closesOn board l slot
-unfolding closesOn
-closes-yes board l slot n e h = sym (all-true (tasksOn board) (settledOn board l slot) (λ v i. h v (rw e i)))
+module _ (board l : List ℕ) (slot : ℕ) (some : endsOn board slot ≢ 0) where
+  pub closes-not : (v : ℕ) (r : Bool) → v < tasksOn board → r ≡ settledOn board l slot v → r ≡ false → false ≡ closesOn board l slot
+  unfolding closesOn
+  closes-not v r h e f = rw (ne-eqb (endsOn board slot) 0 some) (sym (all-false (tasksOn board) (settledOn board l slot) v h (sym e ∙ f)))
+
+  pub closes-yes : (n : ℕ) → n ≡ tasksOn board → ((v : ℕ) → v < n → settledOn board l slot v ≡ true) → true ≡ closesOn board l slot
+  unfolding closesOn
+  closes-yes n e h = rw (ne-eqb (endsOn board slot) 0 some) (sym (all-true (tasksOn board) (settledOn board l slot) (λ v i. h v (rw e i))))
 
 -- ---- one job at the slot's end
 module _ (board l : List ℕ) (slot v : ℕ) where

@@ -1,6 +1,6 @@
 -- What the walk's tests on its arrays say of the instance that the arrays are for.
 -- Assumes nothing.
-use Prim.Native.Nat.{ℕ, suc, _+_, _*_, _-_, _/_, _%_, _≤_, _<_}
+use Prim.Native.Nat.{ℕ, zero, suc, _+_, _*_, _-_, _/_, _%_, _≤_, _<_}
 use native.Mathlib.Omega.{arith}
 use native.Mathlib.Numerals.{add-one}
 use native.Mathlib.Decide.{ℕ-discrete}
@@ -15,7 +15,7 @@ use lib.ListN.{length, set}
 use lib.Seq.{getD-set-same, getD-set-other}
 use borrow.Author.Tests.{le-leb, eq-eqb, ne-eqb}
 use Rattle.laws.specs.Sum.{gate, sum}
-use Rattle.laws.specs.Tests.{every, all}
+use Rattle.laws.specs.Tests.{every, all, imp}
 use Rattle.laws.specs.Lists.{nth}
 use Rattle.laws.proofs.TestLaws.{both, make-both, every-holds, holds-every, all-at, at-all, all-same, all-true, imp-use, imp-make}
 use Rattle.tasks.specs.Instance.{Instance, jobEnd}
@@ -26,7 +26,7 @@ use Rattle.table.proofs.ShareLaws.{share-none, share-own}
 use Rattle.rules.specs.Rules.{tests, permitted, settled, closed}
 use Rattle.sets.specs.Sets.{has, without}
 use Rattle.sets.proofs.SetLaws.{without-has}
-use Rattle.walk.specs.Machine.{entryOn, rateOn, tasksOn, counterOn, fitOn, setsOn, settledOn, closesOn}
+use Rattle.walk.specs.Machine.{entryOn, endsOn, rateOn, tasksOn, counterOn, fitOn, setsOn, settledOn, closesOn}
 use Rattle.walk.specs.Ready.{Small, counterOf, closedCounter, entryOf, Ready, Lefts}
 use Rattle.walk.proofs.MachineLaws.{sets-has}
 
@@ -158,8 +158,13 @@ module _ {P : Instance} {e : ℕ} {board : List ℕ} (small : Small P) (ready : 
 
   -- after the last core of a slot
   pub closes-is : {slot : ℕ} → slot < P .slots → (c : ℕ) (f : ℕ → ℕ) (l : List ℕ) → Lefts P c f l → c ≡ suc slot * P .cores → closesOn board l slot ≡ closed P c f
-  unfolding closesOn closed
-  closes-is {slot} ls c f l lefts ec = rw (ready .tasks) (all-same (P .tasks) _ _ (λ v lv. settled-is ls lv c f l lefts ec))
+  unfolding closesOn closed settledOn
+  closes-is {slot} ls c f l lefts ec = ends-only (endsOn board slot) refl ∙ rw (ready .tasks) (all-same (P .tasks) _ _ (λ v lv. settled-is ls lv c f l lefts ec))
+    where
+      -- where no job ends, each is settled
+      ends-only : (x : ℕ) → endsOn board slot ≡ x → imp (not (eqb (endsOn board slot) 0)) (all (tasksOn board) (settledOn board l slot)) ≡ all (tasksOn board) (settledOn board l slot)
+      ends-only zero z = rw (eq-eqb (endsOn board slot) 0 z) (sym (all-true (tasksOn board) _ (λ v lv. rw (eq-eqb (entryOn board slot v % 2) 0 (ready .ends slot v ls (rw (ready .tasks) at lv) z)))))
+      ends-only (suc x) z = rw (ne-eqb (endsOn board slot) 0 (λ q. omega arith))
 
   -- within a slot no job ends
   pub closed-within : (slot core : ℕ) → 0 < core → core < P .cores → (f : ℕ → ℕ) → closed P (slot * P .cores + core) f ≡ true

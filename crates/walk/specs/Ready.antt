@@ -1,6 +1,6 @@
 -- The board and the counters of work left for an instance.
 -- Assumes nothing.
-use Prim.Native.Nat.{ℕ, zero, suc, _+_, _*_, _≤_, _<_, pred}
+use Prim.Native.Nat.{ℕ, zero, suc, _+_, _*_, _%_, _≤_, _<_, pred}
 use mathlib.Core.Path.{_≡_}
 use mathlib.Core.Logic.{_≢_}
 use mathlib.Core.Bool.{Bool, true, false, cond, _&&_}
@@ -12,7 +12,7 @@ use Rattle.tasks.specs.Instance.{Instance, jobSlot, jobEnd, Regular}
 use Rattle.table.specs.Table.{workLeft}
 use Rattle.rules.specs.Rules.{evenRates, twin}
 use Rattle.sets.specs.Sets.{has}
-use Rattle.walk.specs.Machine.{entryOn, rateOn, fitOn, evenOn, twinOn, tasksOn, coresOn, slotsOn}
+use Rattle.walk.specs.Machine.{entryOn, endsOn, rateOn, fitOn, evenOn, twinOn, tasksOn, coresOn, slotsOn}
 
 -- an instance that the arrays can hold, each of whose jobs has a slot
 pub record Small (P : Instance) : Type 0 where
@@ -46,6 +46,7 @@ pub record Ready (P : Instance) (e : ℕ) (board : List ℕ) : Type 0 where
   pub cores : coresOn board ≡ P .cores
   pub tasks : tasksOn board ≡ P .tasks
   pub entries : (t v : ℕ) → t < P .slots → v < P .tasks → entryOn board t v ≡ entryOf P (suc v) t
+  pub ends : (t v : ℕ) → t < P .slots → v < P .tasks → endsOn board t ≡ 0 → entryOn board t v % 2 ≡ 0
   pub rates : (v j : ℕ) → v < P .tasks → j < P .cores → rateOn board v j ≡ P .rate (suc v) j
   pub fits : (v j w : ℕ) → v < P .tasks → j < P .cores → has (fitOn board v w) 0 j ≡ ltb 0 (P .rate (suc v) j) && leb (P .rate (suc v) j) w
   pub evens : (v : ℕ) → v < P .tasks → evenOn board v ≡ gate (isQuick e && evenRates P (suc v)) 1

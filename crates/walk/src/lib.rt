@@ -3,7 +3,8 @@
 // The board holds what the walk reads: for slot t and task v at place t * 16 + v twice the number of the counter of the
 // task's job there, one more in the job's highest-numbered slot; then the rates, four a task; for rule A a 1 for each task
 // whose positive rates are equal; for rule B, four a core, a 1 for each earlier twin; the task count, the cores, the slots;
-// and for each task, by the work left up to 15, the cores on which its rate is positive and within it, as bits.
+// for each task, by the work left up to 15, the cores on which its rate is positive and within it, as bits; and for each
+// slot a 0 if no job has its highest-numbered slot there.
 // `left` has the work left of each job at its counter, and 0 at the counter of closed slots.
 // `sets` has the tasks that may still stand in the slot, for each core: worked out once a slot.
 // A call takes six numbers at most, since a seventh would pass through memory: slot and core are one place, and the tries
@@ -28,6 +29,8 @@ const SLOTS: usize = 16482;
 
 const FITS: usize = 16483;
 
+const ENDS: usize = 16739;
+
 // The tries are counted up to here.
 pub const FULL: u32 = 4294967295;
 
@@ -51,7 +54,7 @@ fn byte(x: u8) -> usize
 }
 
 // The counter of the work left of a task's job in a slot.
-fn counter(board: &[u16; 16739], slot: usize, task: usize) -> usize
+fn counter(board: &[u16; 17763], slot: usize, task: usize) -> usize
     requires { ⌜ (slot < 1024) × (task < 16) ⌝ }
     ensures { λ r. ⌜ (r ≡ counterOn (now (board .entry)) slot task) × (r < 32768) ⌝ }
 {
@@ -59,7 +62,7 @@ fn counter(board: &[u16; 16739], slot: usize, task: usize) -> usize
 }
 
 // The rate of a task on a core.
-fn rate(board: &[u16; 16739], task: usize, core: usize) -> u16
+fn rate(board: &[u16; 17763], task: usize, core: usize) -> u16
     requires { ⌜ (task < 16) × (core < 4) ⌝ }
     ensures { λ r. ⌜ r ≡ rateOn (now (board .entry)) task core ⌝ }
 {
@@ -74,7 +77,7 @@ fn up_to_15(work: u16) -> usize
 }
 
 // The cores, as bits, on which a task has a positive rate within so much work.
-fn fit(board: &[u16; 16739], task: usize, work: u16) -> u64
+fn fit(board: &[u16; 17763], task: usize, work: u16) -> u64
     requires { ⌜ task < 16 ⌝ }
     ensures { λ r. ⌜ (r ≡ fitOn (now (board .entry)) task work) × (r < 16) ⌝ }
 {
@@ -82,7 +85,7 @@ fn fit(board: &[u16; 16739], task: usize, work: u16) -> u64
 }
 
 // The sets of the tasks that may stand in a slot, where nothing stands yet.
-fn enter(board: &[u16; 16739], left: &[u16; 32768], slot: usize) -> u64
+fn enter(board: &[u16; 17763], left: &[u16; 32768], slot: usize) -> u64
     requires { ⌜ (slot < 1024) × (tasksOn (now board) ≤ 16) ⌝ }
     ensures { λ r. ⌜ r ≡ setsOn (now (board .entry)) (now (left .entry)) slot ⌝ }
 {
@@ -97,7 +100,7 @@ fn enter(board: &[u16; 16739], left: &[u16; 32768], slot: usize) -> u64
 }
 
 // The rank of the value on core j of a slot, if that is an earlier twin of a core; else 0. Idle ranks last.
-fn twin_rank(board: &[u16; 16739], table: &[u8; 4096], first: usize, core: usize, j: usize) -> usize
+fn twin_rank(board: &[u16; 17763], table: &[u8; 4096], first: usize, core: usize, j: usize) -> usize
     requires { ⌜ (core < 4) × (j < core) × (first + core ≤ 4096) ⌝ }
     ensures { λ r. ⌜ (r ≡ twinRankOn (now (board .entry)) (now (table .entry)) first core j) × (r ≤ 65536) ⌝ }
 {
@@ -112,7 +115,7 @@ fn twin_rank(board: &[u16; 16739], table: &[u8; 4096], first: usize, core: usize
 }
 
 // The rank below which rule B bars a value: the highest on an earlier twin.
-fn floor(board: &[u16; 16739], table: &[u8; 4096], first: usize, core: usize) -> usize
+fn floor(board: &[u16; 17763], table: &[u8; 4096], first: usize, core: usize) -> usize
     requires { ⌜ (core < 4) × (first + core ≤ 4096) ⌝ }
     ensures { λ r. ⌜ r ≡ floorOn (now (board .entry)) (now (table .entry)) first core ⌝ }
 {
@@ -129,7 +132,7 @@ fn floor(board: &[u16; 16739], table: &[u8; 4096], first: usize, core: usize) ->
 }
 
 // Whether a task's job has no work left, if this is its highest-numbered slot.
-fn settled(board: &[u16; 16739], left: &[u16; 32768], slot: usize, task: usize) -> bool
+fn settled(board: &[u16; 17763], left: &[u16; 32768], slot: usize, task: usize) -> bool
     requires { ⌜ (slot < 1024) × (task < 16) ⌝ }
     ensures { λ r. ⌜ r ≡ settledOn (now (board .entry)) (now (left .entry)) slot task ⌝ }
 {
@@ -141,10 +144,13 @@ fn settled(board: &[u16; 16739], left: &[u16; 32768], slot: usize, task: usize) 
 }
 
 // Whether each job whose highest-numbered slot this is has no work left.
-fn closes(board: &[u16; 16739], left: &[u16; 32768], slot: usize) -> bool
+fn closes(board: &[u16; 17763], left: &[u16; 32768], slot: usize) -> bool
     requires { ⌜ (slot < 1024) × (tasksOn (now board) ≤ 16) ⌝ }
     ensures { λ r. ⌜ r ≡ closesOn (now (board .entry)) (now (left .entry)) slot ⌝ }
 {
+    if board[ENDS + slot] == 0 {
+        return true;
+    }
     let n = wide(board[TASKS]);
     let mut task: usize = 0;
     while task < n {
@@ -184,7 +190,7 @@ fn take_back(left: &mut [u16; 32768], counter: usize, had: u16)
 // Tries each value in the cell of a place, in order: the tasks that may stand there, and then idle.
 fn cell(
     table: &mut [u8; 4096],
-    board: &[u16; 16739],
+    board: &[u16; 17763],
     left: &mut [u16; 32768],
     place: usize,
     tries: u32,
@@ -239,7 +245,7 @@ fn cell(
 // After the cell of a place: the next core; after the last, where no job is starved, the next slot; after the last slot the table is found.
 fn close_slot(
     table: &mut [u8; 4096],
-    board: &[u16; 16739],
+    board: &[u16; 17763],
     left: &mut [u16; 32768],
     place: usize,
     tries: u32,
@@ -265,7 +271,7 @@ fn close_slot(
 // The walk from the first cell.
 pub fn walk(
     table: &mut [u8; 4096],
-    board: &[u16; 16739],
+    board: &[u16; 17763],
     left: &mut [u16; 32768],
     tries: u32,
 ) -> u64

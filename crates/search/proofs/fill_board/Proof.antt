@@ -32,8 +32,17 @@ element-write-board-3 c = search needs
 fill-fits-requires : tie.Need-fill-fits-requires
 fill-fits-requires c κs = search needs
 
+cast-fill-ends : tie.Need-cast-fill-ends
+cast-fill-ends c = search needs
+
+cast-fill-ends-2 : tie.Need-cast-fill-ends-2
+cast-fill-ends-2 c = search needs
+
+fill-ends-requires : tie.Need-fill-ends-requires
+fill-ends-requires c κs = search needs
+
 returns : tie.Need-returns
-returns c = board-filled _ _ _ _ _ _ _ _ _ _ (c .before .before .before .before .before .before .before .before .before .before .fill-grid .ensures) (c .before .before .before .before .before .before .before .fill-rates .ensures) (c .before .before .before .before .before .fill-even .ensures) (c .before .before .before .fill-twins .ensures) (c .fill-fits .ensures)
+returns c = board-filled _ _ _ _ _ _ _ _ _ _ _ (c .before .before .before .before .before .before .before .before .before .before .before .before .before .before .fill-grid .ensures) (c .before .before .before .before .before .before .before .before .before .before .before .fill-rates .ensures) (c .before .before .before .before .before .before .before .before .before .fill-even .ensures) (c .before .before .before .before .before .before .before .fill-twins .ensures) (c .before .before .before .before .fill-fits .ensures) (c .fill-ends .ensures)
 
 pub fill-board-spec : {M : Type 1} → statement M
 fill-board-spec =
@@ -48,4 +57,7 @@ fill-board-spec =
     element-write-board-2
     element-write-board-3
     fill-fits-requires
+    cast-fill-ends
+    cast-fill-ends-2
+    fill-ends-requires
     returns)

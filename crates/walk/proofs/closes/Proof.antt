@@ -1,20 +1,33 @@
 use borrow.Author.Tests.{not-true, not-false}
 use Prim.Native.Nat.{ℕ, _-_, _≤_, _<_}
 use mathlib.Core.Path.{_≡_, sym, _∙_}
+use mathlib.Core.Logic.{_≢_}
 use native.Mathlib.Omega.{arith}
 use mathlib.Core.Bool.{true}
 use borrow.Author.Count.{below-none, below-more}
-use Rattle.walk.specs.Machine.{tasksOn, settledOn}
-use Rattle.walk.proofs.MachineLaws.{closes-not, closes-yes}
+use Rattle.walk.specs.Machine.{tasksOn, endsOn, settledOn}
+use Rattle.walk.proofs.MachineLaws.{closes-none, closes-not, closes-yes}
 use borrow.Author.Needs.{needs}
 use Rattle.walk.proofs.closes.Statement.{statement}
 use Rattle.walk.proofs.closes.Tie as tie
 
 abbrev Inv-loop : tie.InvT-loop
-Inv-loop board left slot n task₀ task = (task ≤ n) × (n ≡ tasksOn board) × ((v : ℕ) → v < task → settledOn board left slot v ≡ true)
+Inv-loop board left slot n task₀ task = (task ≤ n) × (n ≡ tasksOn board) × ((v : ℕ) → v < task → settledOn board left slot v ≡ true) × (endsOn board slot ≢ 0)
 
 abbrev μ-loop : tie.MeasureT-loop
 μ-loop board left slot n task₀ task = n - task
+
+add-if1 : tie.Need-add-if1 Inv-loop μ-loop
+add-if1 c = search needs
+
+mul-if1 : tie.Need-mul-if1 Inv-loop μ-loop
+mul-if1 c = search needs
+
+element-copy-out-if1 : tie.Need-element-copy-out-if1 Inv-loop μ-loop
+element-copy-out-if1 c = search needs
+
+returns : tie.Need-returns Inv-loop μ-loop
+returns c = closes-none _ _ _ (c .if1 .taken)
 
 element-copy-out-wide : tie.Need-element-copy-out-wide Inv-loop μ-loop
 element-copy-out-wide c = search needs
@@ -23,13 +36,13 @@ wide-requires : tie.Need-wide-requires Inv-loop μ-loop
 wide-requires c κs = search needs
 
 loop-holds : tie.Need-loop-holds Inv-loop μ-loop
-loop-holds c = (search needs, search needs, below-none _)
+loop-holds c = (search needs, search needs, below-none _, c .before .before .if1 .left)
 
 settled-requires : tie.Need-settled-requires Inv-loop μ-loop
 settled-requires c κs = search needs
 
-returns : tie.Need-returns Inv-loop μ-loop
-returns c = closes-not _ _ _ _ _ (omega arith) (c .before .settled .ensures) (not-true _ (c .if1 .taken))
+returns-2 : tie.Need-returns-2 Inv-loop μ-loop
+returns-2 c = closes-not _ _ _ (c .before .before .before .loop .inv .3) _ _ (omega arith) (c .before .settled .ensures) (not-true _ (c .if2 .taken))
 
 add-task : tie.Need-add-task Inv-loop μ-loop
 add-task c = search needs
@@ -38,10 +51,10 @@ loop-less : tie.Need-loop-less Inv-loop μ-loop
 loop-less c = search needs
 
 loop-again : tie.Need-loop-again Inv-loop μ-loop
-loop-again c = (search needs, search needs, below-more _ _ (c .before .before .before .loop .inv .2) (sym (c .before .settled .ensures) ∙ not-false _ (c .if1 .left)))
+loop-again c = (search needs, search needs, below-more _ _ (c .before .before .before .loop .inv .2) (sym (c .before .settled .ensures) ∙ not-false _ (c .if2 .left)), c .before .before .before .loop .inv .3)
 
-returns-2 : tie.Need-returns-2 Inv-loop μ-loop
-returns-2 c = closes-yes _ _ _ _ (c .before .loop .inv .1) (λ v l. c .before .loop .inv .2 v (omega arith))
+returns-3 : tie.Need-returns-3 Inv-loop μ-loop
+returns-3 c = closes-yes _ _ _ (c .before .loop .inv .3) _ (c .before .loop .inv .1) (λ v l. c .before .loop .inv .2 v (omega arith))
 
 pub closes-spec : {M : Type 1} → statement M
 closes-spec =
@@ -49,12 +62,16 @@ closes-spec =
     (tie.spec
     Inv-loop
     μ-loop
+    add-if1
+    mul-if1
+    element-copy-out-if1
+    returns
     element-copy-out-wide
     wide-requires
     loop-holds
     settled-requires
-    returns
+    returns-2
     add-task
     loop-less
     loop-again
-    returns-2)
+    returns-3)
