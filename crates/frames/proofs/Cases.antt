@@ -10,10 +10,11 @@ use Rattle.laws.specs.Sum.{gate}
 use Rattle.laws.specs.Lists.{tab}
 use Rattle.tasks.specs.declared.Task.{Task}
 use Rattle.tasks.specs.Refusal.{within, unless}
-use Rattle.frames.specs.Frame.{sortOf, two, four}
-use Rattle.frames.specs.Lines.{isDigit, digitOf, pairs, bytesOf, before, lines}
-use Rattle.frames.specs.Read.{Read, refused, problem, mayFollow, rightNumber, inPlace, taskOf, taken, lengthRefusal, frameRefusal, lineRefusal, placeRefusal, readLines, readWithin, readProblem}
-use Rattle.frames.specs.Write.{hexOf, digits, lineOf, verdictFrame, cellAt, slotFrame, slotLines, writeAnswer}
+use Rattle.lines.specs.Frame.{sortOf, two, four}
+use Rattle.lines.specs.Lines.{isDigit, digitOf, pairs, bytesOf, before, lines, hexOf, digits, lineOf}
+use Rattle.lines.specs.Refusal.{lengthRefusal, frameRefusal, lineRefusal}
+use Rattle.frames.specs.Read.{Read, refused, problem, mayFollow, rightNumber, inPlace, taskOf, taken, placeRefusal, readLines, readWithin, readProblem}
+use Rattle.frames.specs.Write.{verdictFrame, cellAt, slotFrame, slotLines, writeAnswer}
 
 -- the bytes of a text
 bytes : String → List ℕ

@@ -1,8 +1,5 @@
 mod Cases
-mod FrameLaws
-mod LineLaws
-mod ListLaws
-mod ReadLaws
+mod PlaceLaws
 pub mod ProblemLaws
 mod ReachLaws
 mod TaskLaws

@@ -14,9 +14,11 @@ use Rattle.laws.specs.Lists.{nth}
 use Rattle.tasks.specs.declared.Task.{Task}
 use Rattle.tasks.proofs.NumberLaws.{Held, held-more}
 use Rattle.tasks.specs.Refusal.{unless}
-use Rattle.frames.specs.Lines.{Line, bytesOf, lines}
-use Rattle.frames.specs.Read.{Read, refused, problem, State, said, start, inPlace, taskOf, taken, lineRefusal, placeRefusal, orRead, readLines, readWithin, readProblem}
-use Rattle.frames.proofs.ReachLaws.{unless-none, number-room}
+use Rattle.lines.specs.Lines.{Line, bytesOf, lines}
+use Rattle.lines.specs.Refusal.{lineRefusal}
+use Rattle.lines.proofs.RefusalLaws.{unless-none}
+use Rattle.frames.specs.Read.{Read, refused, problem, State, said, start, inPlace, taskOf, taken, placeRefusal, orRead, readLines, readWithin, readProblem}
+use Rattle.frames.proofs.ReachLaws.{number-room}
 
 -- a reading that is refused by a number, or holds its tasks
 data Fine : Read → Type 0 where

@@ -5,56 +5,23 @@ use native.Mathlib.Decide.{ℕ-discrete}
 use native.Mathlib.Omega.{arith}
 use mathlib.Core.Path.{_≡_, refl, sym, ap, _∙_}
 use mathlib.Core.Logic.{_≢_}
-use mathlib.Core.Bool.{Bool, true, false, not, _&&_, false≢true}
+use mathlib.Core.Bool.{true, false, _&&_}
 use mathlib.Core.List.{List, [], _∷_}
-use borrow.Author.Tests.{ltb-true, leb-true, eqb-true, eq-eqb, ne-eqb}
+use borrow.Author.Tests.{leb-true, eqb-true, eq-eqb, ne-eqb}
 use lib.Dec.{leb, eqb}
 use lib.ListN.{length, drop, length-append, drop-of-length-le}
-use lib.Seq.{slice, length-slice}
+use lib.Seq.{slice}
 use Rattle.laws.specs.Lists.{nth, tab}
 use Rattle.tasks.specs.Task.{listOf}
 use Rattle.tasks.specs.Refusal.{unless}
-use Rattle.frames.specs.Frame.{lengthOfKind, sortOf}
-use Rattle.frames.specs.Lines.{pairs, bytesOf, lines, lineAt, LineEnd}
-use Rattle.frames.specs.Read.{State, said, start, refused, isKind, mayFollow, rightNumber, inPlace, taskOf, taken, lengthRefusal, frameRefusal, lineRefusal, placeRefusal, orRead, readLines, blankOf, heldBy, told, filled}
+use Rattle.lines.specs.Frame.{filled}
+use Rattle.lines.specs.Lines.{bytesOf, lines, lineAt, LineEnd}
+use Rattle.lines.specs.Refusal.{lineRefusal}
+use Rattle.lines.proofs.LineLaws.{line-cut}
+use Rattle.lines.proofs.RefusalLaws.{both-pass}
+use Rattle.frames.specs.Read.{State, said, start, refused, mayFollow, rightNumber, inPlace, taskOf, taken, placeRefusal, orRead, readLines, blankOf, heldBy, told}
 use Rattle.frames.specs.declared.Problem.{Problem}
-use Rattle.frames.proofs.FrameLaws.{length-most}
-use Rattle.frames.proofs.LineLaws.{line-cut, bytes-length}
-use Rattle.frames.proofs.ReadLaws.{kind-low}
 
--- two tests that pass together
-both-pass : (a b : Bool) → a && b ≡ true → (a ≡ true) × (b ≡ true)
-both-pass true b e = (refl, e)
-both-pass false b e = absurd (false≢true e)
-
--- ---- a line that is not refused
--- a refusal that is none
-pub unless-none : (b : Bool) (k next : ℕ) → 0 < k → unless b k next ≡ 0 → (b ≡ true) × (next ≡ 0)
-unfolding unless
-unless-none true k next l e = (refl, e)
-unless-none false k next l e = absurd (omega arith)
-
--- has a line feed, and at most 10 bytes
-pub line-passed : (text : List ℕ) (from to : ℕ) → to ≤ length text → lineRefusal (lineAt text from to) ≡ 0 → (to < length text) × (to ≤ from + 21)
-unfolding lineRefusal frameRefusal lengthRefusal
-line-passed text from to fits e =
-    let a = unless-none _ 21 _ (omega arith) e in
-    let b = unless-none (isKind (sortOf kind)) 22 _ (omega arith) (a .1) in
-    let c = unless-none (eqb (length bytes) (lengthOfKind kind)) 23 _ (omega arith) (b .1) in (
-      ltb-true to (length text) (both-pass _ (pairs part && (not (eqb (length part) 0) && true)) (a .0) .0),
-      omega (arith, eqb-true (length bytes) (lengthOfKind kind) (c .0), length-most kind (kind-low kind (b .0)), bytes-length part, length-slice from to text fits),
-    )
-  where
-    part : List ℕ
-    part = slice from to text
-
-    bytes : List ℕ
-    bytes = bytesOf part
-
-    kind : ℕ
-    kind = nth bytes 0
-
--- ---- where the reading stands
 -- an 03 in its place finds room for its task
 pub number-room : (last n : ℕ) (f : List ℕ) → inPlace last n f ≡ true → nth f 0 ≡ 3 → n < 16
 unfolding inPlace rightNumber

@@ -10,8 +10,8 @@ use Rattle.tasks.specs.declared.Task.{Task}
 use Rattle.tasks.specs.declared.TaskList.{TaskList}
 use Rattle.tasks.specs.Task.{listOf, added}
 use Rattle.tasks.proofs.NumberLaws.{list-added}
-use Rattle.frames.specs.Frame.{two, four}
-use Rattle.frames.specs.Read.{State, taskOf, taken, heldBy, told, filled}
+use Rattle.lines.specs.Frame.{two, four, filled}
+use Rattle.frames.specs.Read.{State, taskOf, taken, heldBy, told}
 use Rattle.frames.specs.declared.Problem.{Problem}
 
 -- the task of an 02 and an 03 behind those before it

@@ -1,20 +1,19 @@
 -- The reader: a problem's text, line by line, and file refusals 20 to 24.
 -- Assumes nothing.
 use Prim.Native.Nat.{ℕ, zero, suc}
-use mathlib.Core.Bool.{Bool, true, false, cond, not, _&&_, _||_}
+use mathlib.Core.Bool.{Bool, false, cond, _&&_, _||_}
 use mathlib.Core.List.{List, [], _∷_, _++_}
 use lib.Dec.{leb, eqb}
 use lib.ListN.{length}
-use Rattle.laws.specs.Tests.{every, imp}
-use Rattle.laws.specs.Lists.{nth, tab}
+use Rattle.laws.specs.Tests.{imp}
+use Rattle.laws.specs.Lists.{nth}
 use Rattle.tasks.specs.declared.Task.{Task}
 use Rattle.tasks.specs.Task.{listOf}
 use Rattle.tasks.specs.Refusal.{unless}
+use Rattle.lines.specs.Frame.{two, four}
+use Rattle.lines.specs.Lines.{Line, bytesOf, lines}
+use Rattle.lines.specs.Refusal.{lineRefusal}
 use Rattle.frames.specs.declared.Problem.{Problem}
-use Rattle.frames.specs.declared.Sort.{Sort}
-use Rattle.frames.specs.declared.Sort.the-variants.{Known, Misplaced, Unknown}
-use Rattle.frames.specs.Frame.{lengthOfKind, sortOf, two, four}
-use Rattle.frames.specs.Lines.{Line, pairs, bytesOf, lines}
 
 -- what a text holds: cores, tasks, engine and limit; or the number that refuses the file
 pub data Read : Type 0 where
@@ -73,33 +72,6 @@ taken s f = record {
   limit = cond (eqb (nth f 0) 4) (four f 2) (s .limit);
 }
 
--- there is such a kind
-abbrev pub isKind : Sort → Bool
-isKind Known = true
-isKind Misplaced = true
-isKind Unknown = false
-
--- it stands in a problem
-abbrev pub inProblem : Sort → Bool
-inProblem Known = true
-inProblem Misplaced = false
-inProblem Unknown = false
-
--- 23 wrong length
-unfoldable pub lengthRefusal : ℕ → ℕ → ℕ → ℕ
-lengthRefusal kind count after = unless (eqb count (lengthOfKind kind)) 23 after
-
--- 22 unknown kind; 23; 24 out of place, as a kind of an answer always is
-unfoldable pub frameRefusal : ℕ → ℕ → ℕ
-frameRefusal kind count =
-    unless (isKind (sortOf kind)) 22 (lengthRefusal kind count (unless (inProblem (sortOf kind)) 24 0))
-
--- 21 no line feed, not pairs of 0-9A-F, or empty; then its frame
-unfoldable pub lineRefusal : Line → ℕ
-lineRefusal l =
-    unless (every (l .ended ∷ pairs (l .text) ∷ not (eqb (length (l .text)) 0) ∷ [])) 21
-    (frameRefusal (nth (bytesOf (l .text)) 0) (length (bytesOf (l .text))))
-
 -- 24 out of place, or a task number above 16
 unfoldable pub placeRefusal : State → List ℕ → ℕ
 placeRefusal s f = unless (inPlace (nth (s .last) 0) (length (s .tasks)) f) 24 0
@@ -135,7 +107,3 @@ told (problem m ts engine limit) = record { refusal = 0; m = m; list = listOf ts
 -- what it holds of the frames so far
 abbrev pub heldBy : State → Problem
 heldBy s = told (said s)
-
--- a frame's bytes, filled up with 0
-unfoldable pub filled : List ℕ → List ℕ
-filled f = tab 10 (nth f)

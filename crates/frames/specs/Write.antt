@@ -9,19 +9,7 @@ use lib.ListN.{length}
 use Rattle.laws.specs.Sum.{gate}
 use Rattle.laws.specs.Tests.{every}
 use Rattle.laws.specs.Lists.{nth, over}
-
--- 0-9 and A-F
-unfoldable pub hexOf : ℕ → ℕ
-hexOf x = cond (ltb x 10) (48 + x) (55 + x)
-
--- the digits of a frame's bytes
-unfoldable pub digits : List ℕ → List ℕ
-digits [] = []
-digits (b ∷ f) = hexOf (b / 16) ∷ hexOf (b % 16) ∷ digits f
-
--- a frame's line, ended by a line feed
-unfoldable pub lineOf : List ℕ → List ℕ
-lineOf f = digits f ++ (10 ∷ [])
+use Rattle.lines.specs.Lines.{lineOf}
 
 -- 05 verdict, tries of four bytes
 unfoldable pub verdictFrame : ℕ → ℕ → List ℕ

@@ -2,13 +2,21 @@
 ghost use mathlib.Core.Path.{_≡_};
 ghost use mathlib.Core.List.{List, [], _∷_, _++_};
 ghost use Prim.Native.Nat.{ℕ, _+_, _*_, _≤_, _<_};
-ghost use lib.ListN.{length, take};
-ghost use lib.Seq.{sets, slice};
+ghost use lib.ListN.{length};
+ghost use lib.Seq.{sets};
 ghost use Rattle.laws.specs.Lists.{nth};
-ghost use Rattle.frames.specs.Frame.{lengthOfKind, sortOf};
-ghost use Rattle.frames.specs.Lines.{isDigit, digitOf, pairs, bytesOf, lines, LineEnd, lineAt};
-ghost use Rattle.frames.specs.Read.{State, start, mayFollow, rightNumber, inPlace, taskOf, taken, lengthRefusal, frameRefusal, lineRefusal, readLines, readProblem, blankOf, heldBy, told, filled};
-ghost use Rattle.frames.specs.Write.{hexOf, digits, lineOf, verdictFrame, cellAt, slotFrame, slotLines, canWrite, writeAnswer, Written};
+ghost use Rattle.lines.specs.Frame.{filled};
+ghost use Rattle.lines.specs.Lines.{lines};
+ghost use Rattle.frames.specs.Read.{State, start, mayFollow, rightNumber, inPlace, taskOf, taken, readLines, readProblem, blankOf, heldBy, told};
+ghost use Rattle.frames.specs.Write.{verdictFrame, cellAt, slotFrame, slotLines, canWrite, writeAnswer, Written};
+use lines::CORES;
+use lines::END;
+use lines::LIMIT;
+use lines::OUT_OF_PLACE;
+use lines::RATES;
+use lines::SLOT;
+use lines::TASK;
+use lines::VERDICT;
 use tasks::MAX_CORES;
 use tasks::MAX_SLOTS;
 use tasks::MAX_TASKS;
@@ -18,25 +26,8 @@ use tasks::Task;
 use tasks::TaskList;
 use tasks::Work;
 
-// The kinds of frames, and what stands for none before the first.
+// What stands for the kind of the last frame before the first.
 const NO_FRAME: u8 = 0;
-
-const CORES: u8 = 1;
-
-const TASK: u8 = 2;
-
-const RATES: u8 = 3;
-
-const LIMIT: u8 = 4;
-
-const VERDICT: u8 = 5;
-
-const SLOT: u8 = 6;
-
-const END: u8 = 7;
-
-// Each kind of frame has its fixed length in bytes.
-const LENGTHS: [u8; 8] = [0, 2, 10, 6, 6, 6, 7, 1];
 
 // A file over this is refused.
 const MAX_TEXT: usize = 1024;
@@ -44,81 +35,11 @@ const MAX_TEXT: usize = 1024;
 // The limit where 04 is left out.
 const LIMIT_LEFT_OUT: u32 = 1000000;
 
-// The file refusals, by 01's numbers.
+// The refusal of a text that is too long, by 01's number.
 const TOO_LONG: u8 = 20;
-
-const NOT_LINE: u8 = 21;
-
-const UNKNOWN_KIND: u8 = 22;
-
-const WRONG_LENGTH: u8 = 23;
-
-const OUT_OF_PLACE: u8 = 24;
 
 // 05 in 13 bytes, 1024 slots of 15 bytes, 07 in 3 bytes.
 const LONGEST_ANSWER: usize = 15376;
-
-// The length of a frame of a kind.
-fn length_of(kind: u8) -> usize
-    requires { ⌜ kind < 8 ⌝ }
-    ensures { λ r. ⌜ (r ≡ lengthOfKind kind) × (r ≤ 10) ⌝ }
-{
-    LENGTHS[kind as usize] as usize
-}
-
-// Whether a kind stands in a problem, in an answer alone, or in neither.
-pub enum Sort {
-    Known,
-    Misplaced,
-    Unknown,
-}
-
-// 01 to 04 and 07 stand in a problem, 05 and 06 in an answer alone.
-fn sort_of(kind: u8) -> Sort
-    ensures { λ r. ⌜ r ≡ sortOf kind ⌝ }
-{
-    match kind {
-        CORES..=LIMIT | END => Sort::Known,
-        VERDICT..=SLOT => Sort::Misplaced,
-        _ => Sort::Unknown,
-    }
-}
-
-// Whether a byte is one of 0-9A-F.
-fn is_digit(c: u8) -> bool
-    ensures { λ r. ⌜ r ≡ isDigit c ⌝ }
-{
-    match c {
-        b'0'..=b'9' | b'A'..=b'F' => true,
-        _ => false,
-    }
-}
-
-// What a digit stands for, and 0 for any other byte.
-fn digit(c: u8) -> u8
-    ensures { λ r. ⌜ (r ≡ digitOf c) × (r ≤ 15) ⌝ }
-{
-    match c {
-        b'0'..=b'9' => c - b'0',
-        b'A'..=b'F' => c - b'A' + 10,
-        _ => 0,
-    }
-}
-
-// The byte of a pair of digits.
-fn pair(high: u8, low: u8) -> u8
-    ensures { λ r. ⌜ r ≡ digitOf high * 16 + digitOf low ⌝ }
-{
-    digit(high) * 16 + digit(low)
-}
-
-// The digit of a number below 16.
-fn hex(x: u8) -> u8
-    requires { ⌜ x ≤ 15 ⌝ }
-    ensures { λ r. ⌜ r ≡ hexOf x ⌝ }
-{
-    if x < 10 { b'0' + x } else { b'A' + (x - 10) }
-}
 
 // A number of two bytes, high byte first.
 fn two_bytes(high: u8, low: u8) -> u16
@@ -148,30 +69,6 @@ fn may_follow(last: u8, kind: u8) -> bool
         LIMIT => kind == END,
         _ => false,
     }
-}
-
-// Writes the two digits of a byte.
-fn put_byte(out: &mut [u8], at: usize, b: u8)
-    requires { ⌜ at + 1 < length (now out) ⌝ }
-    ensures { λ _. ⌜ now (out .exit) ≡ sets (now (out .entry)) at (digits (b ∷ [])) ⌝ }
-{
-    out[at] = hex(b / 16);
-    out[at + 1] = hex(b % 16);
-}
-
-// Writes a frame's line, and gives where the next one begins.
-fn put_frame(out: &mut [u8], at: usize, frame: [u8; 10]) -> usize
-    requires { ⌜ (nth frame 0 < 8) × (at + (lengthOfKind (nth frame 0) * 2 + 1) ≤ length (now out)) ⌝ }
-    ensures { λ r. ⌜ (r ≡ at + (lengthOfKind (nth frame 0) * 2 + 1)) × (now (out .exit) ≡ sets (now (out .entry)) at (lineOf (take (lengthOfKind (nth frame 0)) frame))) ⌝ }
-{
-    let count = length_of(frame[0]);
-    let mut k: usize = 0;
-    while k < count {
-        put_byte(out, at + k * 2, frame[k]);
-        k += 1;
-    }
-    out[at + count * 2] = b'\n';
-    at + (count * 2 + 1)
 }
 
 // The frame of a verdict.
@@ -231,7 +128,7 @@ fn put_slots(out: &mut [u8], at: usize, slots: u16, m: u8, table: &[u8]) -> usiz
     let mut next = at;
     let mut t: u16 = 0;
     while t < slots {
-        next = put_frame(out, next, slot_frame(m, table, t));
+        next = lines::put_frame(out, next, slot_frame(m, table, t));
         t += 1;
     }
     next
@@ -268,9 +165,9 @@ pub fn write_answer(
         return 0;
     }
     let shown = if verdict == 0 { slots } else { 0 };
-    let first = put_frame(out, 0, verdict_frame(verdict, tries));
+    let first = lines::put_frame(out, 0, verdict_frame(verdict, tries));
     let last = put_slots(out, first, shown, m, table);
-    put_frame(out, last, [END, 0, 0, 0, 0, 0, 0, 0, 0, 0])
+    lines::put_frame(out, last, [END, 0, 0, 0, 0, 0, 0, 0, 0, 0])
 }
 
 // What a text holds: a problem, or the number that refuses the file.
@@ -280,98 +177,6 @@ pub struct Problem {
     pub list: TaskList,
     pub engine: u8,
     pub limit: u32,
-}
-
-// Where the line that begins at a place ends: at its line feed, or at the text's end.
-fn line_end(text: &[u8], from: usize) -> usize
-    requires { ⌜ from ≤ length (now text) ⌝ }
-    ensures { λ r. ⌜ LineEnd (now (text .entry)) from r ⌝ }
-{
-    let mut i = from;
-    while i < text.len() {
-        if text[i] == b'\n' {
-            return i;
-        }
-        i += 1;
-    }
-    i
-}
-
-// Whether a part of a text is made of pairs of 0-9A-F.
-fn are_pairs(text: &[u8], from: usize, to: usize) -> bool
-    requires { ⌜ (from ≤ to) × (to ≤ length (now text)) ⌝ }
-    ensures { λ r. ⌜ r ≡ pairs (slice from to (now (text .entry))) ⌝ }
-{
-    let mut i = from;
-    while i < to {
-        if to - i < 2 {
-            return false;
-        }
-        if !is_digit(text[i]) {
-            return false;
-        }
-        if !is_digit(text[i + 1]) {
-            return false;
-        }
-        i += 2;
-    }
-    true
-}
-
-// 23 where a frame of so many bytes has another length than its kind, else what comes after.
-fn length_refusal(kind: u8, count: usize, after: u8) -> u8
-    requires { ⌜ kind < 8 ⌝ }
-    ensures { λ r. ⌜ r ≡ lengthRefusal kind count after ⌝ }
-{
-    if count == length_of(kind) {
-        after
-    } else {
-        WRONG_LENGTH
-    }
-}
-
-// Refusals 22 and 23 of a frame of so many bytes, and 24 for a kind of an answer; 0 if there is none.
-fn frame_refusal(kind: u8, count: usize) -> u8
-    ensures { λ r. ⌜ r ≡ frameRefusal kind count ⌝ }
-{
-    match sort_of(kind) {
-        Sort::Unknown => UNKNOWN_KIND,
-        Sort::Misplaced => length_refusal(kind, count, OUT_OF_PLACE),
-        Sort::Known => length_refusal(kind, count, 0),
-    }
-}
-
-// Refusal 21 of a line, and those of its frame; 0 if there is none.
-fn line_refusal(text: &[u8], from: usize, to: usize) -> u8
-    requires { ⌜ (from ≤ to) × (to ≤ length (now text)) ⌝ }
-    ensures { λ r. ⌜ r ≡ lineRefusal (lineAt (now (text .entry)) from to) ⌝ }
-{
-    if to == text.len() {
-        return NOT_LINE;
-    }
-    if to - from < 2 {
-        return NOT_LINE;
-    }
-    if !are_pairs(text, from, to) {
-        return NOT_LINE;
-    }
-    frame_refusal(pair(text[from], text[from + 1]), (to - from) / 2)
-}
-
-// The bytes of a line, filled up with 0.
-fn frame_at(text: &[u8], from: usize, to: usize) -> [u8; 10]
-    requires { ⌜ (from ≤ to) × (to ≤ length (now text)) × (to ≤ from + 21) ⌝ }
-    ensures { λ r. ⌜ r ≡ filled (bytesOf (slice from to (now (text .entry)))) ⌝ }
-{
-    let count = (to - from) / 2;
-    let mut frame = [0u8; 10];
-    let mut k: usize = 0;
-    while k < count {
-        let i = from + k * 2;
-        frame[k] = pair(text[i], text[i + 1]);
-        k += 1;
-    }
-    frame
 }
 
 // Whether a frame has the number of the next task, if it has a task's number.
@@ -464,12 +269,12 @@ fn read_lines(text: &[u8]) -> Problem
     let mut last = [0u8; 10];
     let mut at: usize = 0;
     while at < text.len() {
-        let to = line_end(text, at);
-        let refusal = line_refusal(text, at, to);
+        let to = lines::line_end(text, at);
+        let refusal = lines::line_refusal(text, at, to);
         if refusal != 0 {
             return blank(refusal);
         }
-        let frame = frame_at(text, at, to);
+        let frame = lines::frame_at(text, at, to);
         if !in_place(last[0], p.list.n, frame) {
             return blank(OUT_OF_PLACE);
         }

@@ -3,7 +3,7 @@
 use mathlib.Core.Path.{sym, _∙_}
 use mathlib.Core.Logic.{⊎-elim}
 use Rattle.frames.specs.Read.{mayFollow}
-use Rattle.frames.proofs.FrameLaws.{after-tasks, none-of, after-end}
+use Rattle.frames.proofs.PlaceLaws.{after-tasks, none-of, after-end}
 use Rattle.frames.proofs.may_follow.Statement.{statement}
 use Rattle.frames.proofs.may_follow.Tie as tie
 

@@ -7,8 +7,9 @@ use borrow.Author.Needs.{needs}
 use borrow.Author.Tests.{not-true, not-false}
 use lib.ListN.{length}
 use Rattle.laws.specs.Lists.{tab}
-use Rattle.frames.specs.Read.{filled}
-use Rattle.frames.proofs.ReachLaws.{Reached, line-passed, number-room, reached-start, line-refused, place-refused, reached-next, no-end, read-all}
+use Rattle.lines.specs.Frame.{filled}
+use Rattle.lines.proofs.RefusalLaws.{line-passed}
+use Rattle.frames.proofs.ReachLaws.{Reached, number-room, reached-start, line-refused, place-refused, reached-next, no-end, read-all}
 use Rattle.frames.proofs.read_lines.Statement.{statement}
 use Rattle.frames.proofs.read_lines.Tie as tie
 

@@ -3,7 +3,7 @@
 use mathlib.Core.Path.{sym}
 use native.Mathlib.Omega.{arith}
 use borrow.Author.Needs.{needs}
-use Rattle.frames.proofs.ReadLaws.{number-over, number-next, number-none}
+use Rattle.frames.proofs.PlaceLaws.{number-over, number-next, number-none}
 use Rattle.frames.proofs.right_number.Statement.{statement}
 use Rattle.frames.proofs.right_number.Tie as tie
 

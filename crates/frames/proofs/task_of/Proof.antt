@@ -1,6 +1,6 @@
 -- `frames::task_of` meets its contract: two bytes a number, and one a rate.
 -- Assumes nothing.
-use Rattle.frames.specs.Frame.{two}
+use Rattle.lines.specs.Frame.{two}
 use Rattle.frames.specs.Read.{taskOf}
 use borrow.Author.Needs.{needs}
 use Rattle.frames.proofs.task_of.Statement.{statement}

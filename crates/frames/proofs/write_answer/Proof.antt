@@ -12,7 +12,8 @@ use lib.Seq.{sets, length-sets}
 use Rattle.laws.specs.Sum.{gate}
 use Rattle.laws.specs.Lists.{nth}
 use Rattle.laws.proofs.SumLaws.{gate-eq, gate-ne}
-use Rattle.frames.specs.Write.{verdictFrame, lineOf}
+use Rattle.lines.specs.Lines.{lineOf}
+use Rattle.frames.specs.Write.{verdictFrame}
 use Rattle.frames.proofs.WriteLaws.{frame-fits, frame-next, can-is, shown-fits, not-written, verdict-line, answer-written}
 use Rattle.frames.proofs.write_answer.Statement.{statement}
 use Rattle.frames.proofs.write_answer.Tie as tie

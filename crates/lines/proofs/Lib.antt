@@ -1,0 +1,5 @@
+mod FrameLaws
+pub mod LineLaws
+pub mod ListLaws
+pub mod RefusalLaws
+mod DigitLaws
