@@ -3,3 +3,4 @@ pub mod LineLaws
 pub mod ListLaws
 pub mod RefusalLaws
 mod DigitLaws
+pub mod Calls
