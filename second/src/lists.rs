@@ -109,9 +109,7 @@ fn task(random: &mut Random, slots: usize, count: usize, cores: usize, most_rate
     if random.once_in(4) {
         rates[random.below(cores)] = 0;
     }
-    let periods: Vec<usize> = (1..=slots)
-        .filter(|&period| slots.is_multiple_of(period))
-        .collect();
+    let periods: Vec<usize> = (1..=slots).filter(|&period| slots % period == 0).collect();
     let period = random.pick(&periods);
     let deadline = if random.once_in(2) {
         period
