@@ -14,22 +14,14 @@ use tasks::Soundness;
 use tasks::Task;
 use tasks::TaskList;
 use tasks::Window;
-
-const RATES: usize = 16384;
-
-const EVEN: usize = 16448;
-
-const TWINS: usize = 16464;
-
-const TASKS: usize = 16480;
-
-const CORES: usize = 16481;
-
-const SLOTS: usize = 16482;
-
-const FITS: usize = 16483;
-
-const ENDS: usize = 16739;
+use walk::CORES;
+use walk::ENDS;
+use walk::EVEN;
+use walk::FITS;
+use walk::RATES;
+use walk::SLOTS;
+use walk::TASKS;
+use walk::TWINS;
 
 // Twice the counter of closed slots.
 const CLOSED: u16 = 32768;

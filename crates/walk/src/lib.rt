@@ -7,7 +7,7 @@
 // slot a 0 if no job has its highest-numbered slot there.
 // `left` has the work left of each job at its counter, and 0 at the counter of closed slots.
 // `sets` has the tasks that may still stand in the slot, for each core: worked out once a slot.
-// A call takes six numbers at most, since a seventh would pass through memory: slot and core are one place, and the tries
+// A call takes six arguments at most, since a seventh would pass through memory: slot and core are one place, and the tries
 // are counted up to the largest number in place of the limit.
 ghost use mathlib.Core.Path.{_≡_};
 ghost use Prim.Native.Nat.{_+_, _-_, _≤_, _<_, min};
@@ -15,21 +15,22 @@ ghost use Rattle.walk.specs.Machine.{counterOn, rateOn, fitOn, setsOn, t
 ghost use Rattle.laws.specs.Lists.{nth};
 ghost use lib.ListN.{set};
 
-const RATES: usize = 16384;
+// Where the board's parts begin.
+pub const RATES: usize = 16384;
 
-const EVEN: usize = 16448;
+pub const EVEN: usize = 16448;
 
-const TWINS: usize = 16464;
+pub const TWINS: usize = 16464;
 
-const TASKS: usize = 16480;
+pub const TASKS: usize = 16480;
 
-const CORES: usize = 16481;
+pub const CORES: usize = 16481;
 
-const SLOTS: usize = 16482;
+pub const SLOTS: usize = 16482;
 
-const FITS: usize = 16483;
+pub const FITS: usize = 16483;
 
-const ENDS: usize = 16739;
+pub const ENDS: usize = 16739;
 
 // The tries are counted up to here.
 pub const FULL: u32 = 4294967295;
@@ -69,7 +70,7 @@ fn rate(board: &[u16; 17763], task: usize, core: usize) -> u16
     board[RATES + (task * 4 + core)]
 }
 
-// So much work, or 15: the largest rate fits either.
+// So much work, up to 15: no rate is more.
 fn up_to_15(work: u16) -> usize
     ensures { λ r. ⌜ (r ≡ min work 15) × (r ≤ 15) ⌝ }
 {
@@ -162,7 +163,7 @@ fn closes(board: &[u16; 17763], left: &[u16; 32768], slot: usize) -> bool
     true
 }
 
-// The work left after a rate.
+// The work left after a rate; 0 where the rate is more.
 fn less(work: u16, rate: u16) -> u16
     ensures { λ r. ⌜ r ≡ work - rate ⌝ }
 {
