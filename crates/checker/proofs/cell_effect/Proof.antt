@@ -21,12 +21,6 @@ returns c = idle-there (c .before .before .before .pre) (c .if1 .taken)
 returns-2 : tie.Need-returns-2
 returns-2 c = unknown-there (c .before .before .before .before .before .pre) (c .before .before .if1 .left) (c .if2 .taken)
 
-sub-place : tie.Need-sub-place
-sub-place c = search needs
-
-cast-task-at : tie.Need-cast-task-at
-cast-task-at c = search needs
-
 task-at-requires : tie.Need-task-at-requires
 task-at-requires c κs = omega (arith, few-listed (c .before .before .before .before .before .pre .ready), c .if2 .left)
 
@@ -39,9 +33,6 @@ is-open-requires c κs = window-ready (c .before .before .before .before .before
 free-requires : tie.Need-free-requires
 free-requires c κs = let s = c .before .before .before .before .before .before .before .before in omega (arith, cell-in (s .pre .ready) _ _ (s .pre .slot-in) (s .pre .core-in), s .pre .ready .long)
 
-kind-requires : tie.Need-kind-requires
-kind-requires c κs = search needs
-
 returns-3 : tie.Need-returns-3
 returns-3 c =
     faulty-there (c .before .before .before .before .before .before .before .before .before .before .before .pre) (c .before .before .before .before .before .before .before .before .if1 .left) (c .before .before .before .before .before .before .if2 .left) (c .before .before .before .before .before .task-at .ensures)
@@ -49,9 +40,6 @@ returns-3 c =
 
 job-at-requires : tie.Need-job-at-requires
 job-at-requires c κs = window-ready (c .before .before .before .before .before .before .before .before .before .before .before .pre) (c .before .before .before .before .before .before .before .before .if1 .left) (c .before .before .before .before .before .before .if2 .left) (c .before .before .before .before .before .task-at .ensures)
-
-counter-of-requires : tie.Need-counter-of-requires
-counter-of-requires c κs = search needs
 
 work-in-requires : tie.Need-work-in-requires
 work-in-requires c κs = (rate-few (c .before .before .before .before .before .before .before .before .before .before .before .before .before .pre) (c .before .before .before .before .before .before .before .before .before .before .if1 .left) (c .before .before .before .before .before .before .before .before .if2 .left) (c .before .before .before .before .before .before .before .task-at .ensures), omega arith)
@@ -65,20 +53,6 @@ pub cell-effect-spec : {M : Type 1} → statement M
 cell-effect-spec =
     tie.close
     (tie.spec
-    mul-first
-    add-value
-    shared-slice-read-value
-    returns
-    returns-2
-    sub-place
-    cast-task-at
-    task-at-requires
-    array-read-rate
-    is-open-requires
-    free-requires
-    kind-requires
-    returns-3
-    job-at-requires
-    counter-of-requires
-    work-in-requires
-    returns-4)
+    mul-first add-value shared-slice-read-value returns returns-2 (λ c. search needs) (λ c. search needs)
+    task-at-requires array-read-rate is-open-requires free-requires (λ c κs. search needs) returns-3 job-at-requires
+    (λ c κs. search needs) work-in-requires returns-4)

@@ -7,18 +7,6 @@ use borrow.Author.Needs.{needs}
 use Rattle.checker.proofs.check_table.Statement.{statement}
 use Rattle.checker.proofs.check_table.Tie as tie
 
-test-list-requires : tie.Need-test-list-requires
-test-list-requires c κs = search needs
-
-enum-known-soundness : tie.Need-enum-known-soundness
-enum-known-soundness c = search needs
-
-enum-known-soundness-2 : tie.Need-enum-known-soundness-2
-enum-known-soundness-2 c = search needs
-
-cast-if1 : tie.Need-cast-if1
-cast-if1 c = search needs
-
 mul-if1 : tie.Need-mul-if1
 mul-if1 c = omega (arith, few-cells _ _ (c .before .before .before .before .test-list .ensures) (c .before .before .soundness2 .given .1))
 
@@ -51,15 +39,5 @@ pub check-table-spec : {M : Type 1} → statement M
 check-table-spec =
     tie.close
     (tie.spec
-    test-list-requires
-    enum-known-soundness
-    enum-known-soundness-2
-    cast-if1
-    mul-if1
-    returns
-    scan-cells-requires
-    enum-told
-    scan-jobs-requires
-    returns-2
-    returns-3
-    returns-4)
+    (λ c κs. search needs) (λ c. search needs) (λ c. search needs) (λ c. search needs) mul-if1 returns
+    scan-cells-requires enum-told scan-jobs-requires returns-2 returns-3 returns-4)

@@ -19,17 +19,8 @@ abbrev μ-loop : tie.MeasureT-loop
 loop-holds : tie.Need-loop-holds Inv-loop μ-loop
 loop-holds c = (omega arith, below-none _)
 
-counted-kind-requires : tie.Need-counted-kind-requires Inv-loop μ-loop
-counted-kind-requires c κs = search needs
-
 returns : tie.Need-returns Inv-loop μ-loop
 returns c = job-found _ _ _ _ (c .before .before .loop-test .taken) (c .before .before .before .loop .inv .1) (c .before .counted-kind .ensures) (c .if1 .taken)
-
-add-job : tie.Need-add-job Inv-loop μ-loop
-add-job c = search needs
-
-loop-less : tie.Need-loop-less Inv-loop μ-loop
-loop-less c = search needs
 
 loop-again : tie.Need-loop-again Inv-loop μ-loop
 loop-again c = (search needs, below-more _ _ (c .before .before .before .loop .inv .1) (sym (c .before .counted-kind .ensures) ∙ c .if1 .left))
@@ -41,12 +32,5 @@ pub faulty-job-spec : {M : Type 1} → statement M
 faulty-job-spec =
     tie.close
     (tie.spec
-    Inv-loop
-    μ-loop
-    loop-holds
-    counted-kind-requires
-    returns
-    add-job
-    loop-less
-    loop-again
+    Inv-loop μ-loop loop-holds (λ c κs. search needs) returns (λ c. search needs) (λ c. search needs) loop-again
     returns-2)

@@ -32,15 +32,6 @@ loop-holds c = (as-far (c .before .scan .inv .0) (omega arith), omega arith)
 at : (c : tie.In-loop Inv-loop μ-loop Inv-scan μ-scan) → At (c .before .before .before .before .before .args .list) (c .before .before .before .before .before .args .m) (c .before .before .before .before .before .args .len .0) (c .before .before .before .before .before .args .table .now) (c .before .before .before .scan .slot) (c .before .loop .core)
 at c = search needs
 
-cell-effect-requires : tie.Need-cell-effect-requires Inv-loop μ-loop Inv-scan μ-scan
-cell-effect-requires c κs = search needs
-
-enum-told : tie.Need-enum-told Inv-loop μ-loop Inv-scan μ-scan
-enum-told c = search needs
-
-enum-known-effect : tie.Need-enum-known-effect Inv-loop μ-loop Inv-scan μ-scan
-enum-known-effect c = search needs
-
 -- the counter of a cell that does work
 counter : (c : tie.After-known-told Inv-loop μ-loop Inv-scan μ-scan) → c .before .effect .given .0 .0 < 16384
 counter c = counter-at (at (c .before .before .before .before)) (c .before .before .before .before .before .loop .inv .0) (c .before .before .before .cell-effect .ensures) (c .before .effect .given .1)
@@ -57,18 +48,6 @@ add-done c = record { fits = fits-at (at (c .before .before .before .before .bef
 element-write-done : tie.Need-element-write-done Inv-loop μ-loop Inv-scan μ-scan
 element-write-done c = counter (c .before .before)
 
-enum-known-effect-2 : tie.Need-enum-known-effect-2 Inv-loop μ-loop Inv-scan μ-scan
-enum-known-effect-2 c = search needs
-
-add-t21 : tie.Need-add-t21 Inv-loop μ-loop Inv-scan μ-scan
-add-t21 c = search needs
-
-add-core : tie.Need-add-core Inv-loop μ-loop Inv-scan μ-scan
-add-core c = search needs
-
-loop-less : tie.Need-loop-less Inv-loop μ-loop Inv-scan μ-scan
-loop-less c = search needs
-
 loop-again : tie.Need-loop-again Inv-loop μ-loop Inv-scan μ-scan
 loop-again c =
     let passed = c .before .before .before .loop .inv .0 in (
@@ -78,12 +57,6 @@ loop-again c =
           (c .match .came),
       omega arith,
     )
-
-add-slot : tie.Need-add-slot Inv-loop μ-loop Inv-scan μ-scan
-add-slot c = search needs
-
-scan-less : tie.Need-scan-less Inv-loop μ-loop Inv-scan μ-scan
-scan-less c = search needs
 
 scan-again : tie.Need-scan-again Inv-loop μ-loop Inv-scan μ-scan
 scan-again c = (as-far (c .before .loop .inv .0) (omega arith), omega arith)
@@ -98,26 +71,7 @@ pub scan-cells-spec : {M : Type 1} → statement M
 scan-cells-spec =
     tie.close
     (tie.spec
-    Inv-loop
-    μ-loop
-    Inv-scan
-    μ-scan
-    scan-holds
-    loop-holds
-    cell-effect-requires
-    enum-told
-    enum-known-effect
-    mul-done
-    element-copy-out-done
-    add-done
-    element-write-done
-    enum-known-effect-2
-    add-t21
-    add-core
-    loop-less
-    loop-again
-    add-slot
-    scan-less
-    scan-again
-    returns
+    Inv-loop μ-loop Inv-scan μ-scan scan-holds loop-holds (λ c κs. search needs) (λ c. search needs) (λ c. search needs)
+    mul-done element-copy-out-done add-done element-write-done (λ c. search needs) (λ c. search needs)
+    (λ c. search needs) (λ c. search needs) loop-again (λ c. search needs) (λ c. search needs) scan-again returns
     returns-2)

@@ -19,20 +19,11 @@ abbrev μ-loop : tie.MeasureT-loop
 loop-holds : tie.Need-loop-holds Inv-loop μ-loop
 loop-holds c = (omega arith, below-none _)
 
-cast-task-at : tie.Need-cast-task-at Inv-loop μ-loop
-cast-task-at c = search needs
-
-task-at-requires : tie.Need-task-at-requires Inv-loop μ-loop
-task-at-requires c κs = search needs
-
 div-jobs : tie.Need-div-jobs Inv-loop μ-loop
 div-jobs c = period-some _ _ (c .before .before .before .loop-test .taken) (c .before .before .task-at .ensures) (c .before .before .before .before .before .pre .2)
 
 faulty-job-requires : tie.Need-faulty-job-requires Inv-loop μ-loop
 faulty-job-requires c κs = (omega arith, few-jobs _ _ (c .before .before .before .before .loop-test .taken) (c .before .before .before .task-at .ensures) _ (c .before .before .before .before .before .before .pre .1))
-
-add-t12 : tie.Need-add-t12 Inv-loop μ-loop
-add-t12 c = search needs
 
 counted-kind-requires : tie.Need-counted-kind-requires Inv-loop μ-loop
 counted-kind-requires c κs = (omega arith, omega (arith, few-jobs _ _ (c .before .before .before .before .before .before .loop-test .taken) (c .before .before .before .before .before .task-at .ensures) _ (c .before .before .before .before .before .before .before .before .pre .1), c .if1 .taken))
@@ -41,12 +32,6 @@ returns : tie.Need-returns Inv-loop μ-loop
 returns c =
     row-told _ _ (c .before .before .before .before .before .before .before .loop-test .taken) (c .before .before .before .before .before .before .task-at .ensures) _ _ (c .before .before .faulty-job .ensures) (c .before .before .before .before .before .before .before .before .loop .inv .1)
     (c .before .if1 .taken) (c .counted-kind .ensures)
-
-add-place : tie.Need-add-place Inv-loop μ-loop
-add-place c = search needs
-
-loop-less : tie.Need-loop-less Inv-loop μ-loop
-loop-less c = search needs
 
 loop-again : tie.Need-loop-again Inv-loop μ-loop
 loop-again c = (
@@ -62,17 +47,5 @@ pub scan-jobs-spec : {M : Type 1} → statement M
 scan-jobs-spec =
     tie.close
     (tie.spec
-    Inv-loop
-    μ-loop
-    loop-holds
-    cast-task-at
-    task-at-requires
-    div-jobs
-    faulty-job-requires
-    add-t12
-    counted-kind-requires
-    returns
-    add-place
-    loop-less
-    loop-again
-    returns-2)
+    Inv-loop μ-loop loop-holds (λ c. search needs) (λ c κs. search needs) div-jobs faulty-job-requires
+    (λ c. search needs) counted-kind-requires returns (λ c. search needs) (λ c. search needs) loop-again returns-2)

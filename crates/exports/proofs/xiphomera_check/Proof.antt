@@ -18,38 +18,8 @@ use Rattle.exports.proofs.xiphomera_check.Tie as tie
 as-told : (w : Verdict) {v : Verdict} {l list : TaskList} (m : ℕ) (t : List ℕ) → v ≡ w → toldOf v ≡ check m (rows l) t → l ≡ list → checkedAs (toldOf w) ≡ checkedAs (check m (rows list) t)
 as-told w m t e h made = ap checkedAs (ap toldOf (sym e) ∙ h ∙ ap (λ y. check m (rows y) t) made)
 
-list-of-requires : tie.Need-list-of-requires
-list-of-requires c κs = search needs
-
-check-table-requires : tie.Need-check-table-requires
-check-table-requires c κs = search needs
-
 enum-told : tie.Need-enum-told
 enum-told c = search needs
-
-enum-known-verdict : tie.Need-enum-known-verdict
-enum-known-verdict c = search needs
-
-cast-packed : tie.Need-cast-packed
-cast-packed c = search needs
-
-packed-requires : tie.Need-packed-requires
-packed-requires c κs = search needs
-
-enum-known-verdict-2 : tie.Need-enum-known-verdict-2
-enum-known-verdict-2 c = search needs
-
-cast-packed-2 : tie.Need-cast-packed-2
-cast-packed-2 c = search needs
-
-packed-requires-2 : tie.Need-packed-requires-2
-packed-requires-2 c κs = search needs
-
-enum-known-verdict-3 : tie.Need-enum-known-verdict-3
-enum-known-verdict-3 c = search needs
-
-packed-requires-3 : tie.Need-packed-requires-3
-packed-requires-3 c κs = search needs
 
 returns : tie.Need-returns
 unfolding toldOf checkedAs
@@ -71,18 +41,6 @@ pub xiphomera-check-spec : {M : Type 1} → statement M
 xiphomera-check-spec =
     tie.close
     (tie.spec
-    list-of-requires
-    check-table-requires
-    enum-told
-    enum-known-verdict
-    cast-packed
-    packed-requires
-    enum-known-verdict-2
-    cast-packed-2
-    packed-requires-2
-    enum-known-verdict-3
-    packed-requires-3
-    returns
-    returns-2
-    returns-3
-    returns-4)
+    (λ c κs. search needs) (λ c κs. search needs) enum-told (λ c. search needs) (λ c. search needs)
+    (λ c κs. search needs) (λ c. search needs) (λ c. search needs) (λ c κs. search needs) (λ c. search needs)
+    (λ c κs. search needs) returns returns-2 returns-3 returns-4)

@@ -14,27 +14,6 @@ use Rattle.exports.proofs.xiphomera_search.Tie as tie
 for-list : {s : Searched} {l list : TaskList} (m e b : ℕ) (t : List ℕ) → s ≡ searchOf m (rows l) e b t → l ≡ list → s ≡ searchOf m (rows list) e b t
 for-list m e b t h made = h ∙ ap (λ y. searchOf m (rows y) e b t) made
 
-list-of-requires : tie.Need-list-of-requires
-list-of-requires c κs = search needs
-
-search-requires : tie.Need-search-requires
-search-requires c κs = search needs
-
-cast-result : tie.Need-cast-result
-cast-result c = search needs
-
-mul-result : tie.Need-mul-result
-mul-result c = search needs
-
-cast-result-2 : tie.Need-cast-result-2
-cast-result-2 c = search needs
-
-add-result : tie.Need-add-result
-add-result c = search needs
-
-same-length : tie.Need-same-length
-same-length c = search needs
-
 returns : tie.Need-returns
 returns c = let e = for-list _ _ _ _ (c .before .before .before .before .search .ensures) (c .before .before .before .before .before .before .list-of .ensures) in
     record { answer = ap (λ x. x .verdict * 2 ^ 32 + x .tries) e; left = ap (λ x. x .buffer) e }
@@ -42,4 +21,6 @@ returns c = let e = for-list _ _ _ _ (c .before .before .before .before .search 
 pub xiphomera-search-spec : {M : Type 1} → statement M
 xiphomera-search-spec =
     tie.close
-    (tie.spec list-of-requires search-requires cast-result mul-result cast-result-2 add-result same-length returns)
+    (tie.spec
+    (λ c κs. search needs) (λ c κs. search needs) (λ c. search needs) (λ c. search needs) (λ c. search needs)
+    (λ c. search needs) (λ c. search needs) returns)

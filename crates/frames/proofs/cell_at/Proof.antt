@@ -7,15 +7,6 @@ use Rattle.frames.specs.Write.{cellAt}
 use Rattle.frames.proofs.cell_at.Statement.{statement}
 use Rattle.frames.proofs.cell_at.Tie as tie
 
-mul-result : tie.Need-mul-result
-mul-result c = search needs
-
-add-result : tie.Need-add-result
-add-result c = search needs
-
-shared-slice-read-result : tie.Need-shared-slice-read-result
-shared-slice-read-result c = search needs
-
 returns : tie.Need-returns
 unfolding cellAt
 returns c = sym (gate-lt _ _ _ (c .before .if1 .taken))
@@ -25,5 +16,4 @@ unfolding cellAt
 returns-2 c = sym (gate-ge _ _ _ (c .if1 .left))
 
 pub cell-at-spec : {M : Type 1} → statement M
-cell-at-spec =
-    tie.close (tie.spec mul-result add-result shared-slice-read-result returns returns-2)
+cell-at-spec = tie.close (tie.spec (λ c. search needs) (λ c. search needs) (λ c. search needs) returns returns-2)

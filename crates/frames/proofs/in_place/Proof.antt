@@ -7,24 +7,9 @@ use Rattle.frames.specs.Read.{inPlace}
 use Rattle.frames.proofs.in_place.Statement.{statement}
 use Rattle.frames.proofs.in_place.Tie as tie
 
-array-read-may-follow : tie.Need-array-read-may-follow
-array-read-may-follow c = search needs
-
-may-follow-requires : tie.Need-may-follow-requires
-may-follow-requires c κs = search needs
-
 returns : tie.Need-returns
 unfolding inPlace
 returns c = rw (sym (c .before .may-follow .ensures) ∙ not-true _ (c .if1 .taken))
-
-array-read-right-number : tie.Need-array-read-right-number
-array-read-right-number c = search needs
-
-array-read-right-number-2 : tie.Need-array-read-right-number-2
-array-read-right-number-2 c = search needs
-
-right-number-requires : tie.Need-right-number-requires
-right-number-requires c κs = search needs
 
 returns-2 : tie.Need-returns-2
 unfolding inPlace
@@ -34,10 +19,5 @@ pub in-place-spec : {M : Type 1} → statement M
 in-place-spec =
     tie.close
     (tie.spec
-    array-read-may-follow
-    may-follow-requires
-    returns
-    array-read-right-number
-    array-read-right-number-2
-    right-number-requires
+    (λ c. search needs) (λ c κs. search needs) returns (λ c. search needs) (λ c. search needs) (λ c κs. search needs)
     returns-2)

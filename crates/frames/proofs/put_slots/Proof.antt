@@ -31,12 +31,6 @@ put-frame-requires : tie.Need-put-frame-requires Inv-loop μ-loop
 unfolding slotFrame
 put-frame-requires c κs = frame-fits (c .slot-frame .result) 6 _ _ (ap (λ f. nth f 0) (c .slot-frame .ensures)) (omega arith) (omega arith)
 
-add-t : tie.Need-add-t Inv-loop μ-loop
-add-t c = search needs
-
-loop-less : tie.Need-loop-less Inv-loop μ-loop
-loop-less c = search needs
-
 loop-again : tie.Need-loop-again Inv-loop μ-loop
 unfolding slotFrame
 loop-again c =
@@ -48,9 +42,6 @@ loop-again c =
     (c .before .before .put-frame .ensures .0) in
     (omega arith, omega arith, ap length e ∙ simp length-sets, e)
 
-same-length : tie.Need-same-length Inv-loop μ-loop
-same-length c = search needs
-
 returns : tie.Need-returns Inv-loop μ-loop
 returns c =
     let a = c .before .before .before .before .args in
@@ -61,13 +52,5 @@ pub put-slots-spec : {M : Type 1} → statement M
 put-slots-spec =
     tie.close
     (tie.spec
-    Inv-loop
-    μ-loop
-    loop-holds
-    slot-frame-requires
-    put-frame-requires
-    add-t
-    loop-less
-    loop-again
-    same-length
-    returns)
+    Inv-loop μ-loop loop-holds slot-frame-requires put-frame-requires (λ c. search needs) (λ c. search needs) loop-again
+    (λ c. search needs) returns)

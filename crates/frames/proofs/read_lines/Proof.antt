@@ -19,21 +19,9 @@ Inv-loop text p₀ last₀ at₀ p last at = Reached text p last at
 abbrev μ-loop : tie.MeasureT-loop
 μ-loop text p₀ last₀ at₀ p last at = length text - at
 
-blank-requires : tie.Need-blank-requires Inv-loop μ-loop
-blank-requires c κs = search needs
-
 loop-holds : tie.Need-loop-holds Inv-loop μ-loop
 unfolding filled tab
 loop-holds c = reached-start _ _ _ (c .blank .ensures) refl
-
-line-end-requires : tie.Need-line-end-requires Inv-loop μ-loop
-line-end-requires c κs = search needs
-
-line-refusal-requires : tie.Need-line-refusal-requires Inv-loop μ-loop
-line-refusal-requires c κs = search needs
-
-blank-requires-2 : tie.Need-blank-requires-2 Inv-loop μ-loop
-blank-requires-2 c κs = search needs
 
 returns : tie.Need-returns Inv-loop μ-loop
 returns c =
@@ -47,15 +35,6 @@ frame-at-requires c κs =
     let a = c .before .before .before .before .before .before .before .args in
     (e .behind, e .within, line-passed (a .text .now) _ _ (e .within) (sym (c .before .line-refusal .ensures) ∙ c .if1 .left) .1)
 
-array-read-in-place : tie.Need-array-read-in-place Inv-loop μ-loop
-array-read-in-place c = search needs
-
-in-place-requires : tie.Need-in-place-requires Inv-loop μ-loop
-in-place-requires c κs = search needs
-
-blank-requires-3 : tie.Need-blank-requires-3 Inv-loop μ-loop
-blank-requires-3 c κs = search needs
-
 returns-2 : tie.Need-returns-2 Inv-loop μ-loop
 returns-2 c =
     let t = c .before .before .before .before .before .before .before in
@@ -66,12 +45,6 @@ returns-2 c =
 take-frame-requires : tie.Need-take-frame-requires Inv-loop μ-loop
 take-frame-requires c κs = λ k. number-room _ _ _ (sym (c .before .in-place .ensures) ∙ not-false _ (c .if2 .left)) k
 
-add-at : tie.Need-add-at Inv-loop μ-loop
-add-at c = search needs
-
-loop-less : tie.Need-loop-less Inv-loop μ-loop
-loop-less c = search needs
-
 loop-again : tie.Need-loop-again Inv-loop μ-loop
 loop-again c =
     let t = c .before .before .before .before .before .before .before in
@@ -79,12 +52,6 @@ loop-again c =
     reached-next _ _ _ _ _ R (t .loop-test .taken) (c .before .before .before .before .before .before .line-end .ensures) _
     (sym (c .before .before .before .before .before .line-refusal .ensures) ∙ c .before .before .before .before .if1 .left) (c .before .before .before .frame-at .ensures) _ (sym (c .before .before .in-place .ensures) ∙ not-false _ (c .before .if2 .left))
     (c .take-frame .ensures (R .state) (R .held) (R .frame) _ (c .before .before .before .frame-at .ensures))
-
-array-read-if3 : tie.Need-array-read-if3 Inv-loop μ-loop
-array-read-if3 c = search needs
-
-blank-requires-4 : tie.Need-blank-requires-4 Inv-loop μ-loop
-blank-requires-4 c κs = search needs
 
 returns-3 : tie.Need-returns-3 Inv-loop μ-loop
 returns-3 c = c .blank4 .ensures ∙ no-end _ _ _ _ (c .before .before .before .loop .inv) (c .before .before .loop-test .left) (λ e. omega (arith, e, c .before .if3 .taken))
@@ -96,24 +63,7 @@ pub read-lines-spec : {M : Type 1} → statement M
 read-lines-spec =
     tie.close
     (tie.spec
-    Inv-loop
-    μ-loop
-    blank-requires
-    loop-holds
-    line-end-requires
-    line-refusal-requires
-    blank-requires-2
-    returns
-    frame-at-requires
-    array-read-in-place
-    in-place-requires
-    blank-requires-3
-    returns-2
-    take-frame-requires
-    add-at
-    loop-less
-    loop-again
-    array-read-if3
-    blank-requires-4
-    returns-3
-    returns-4)
+    Inv-loop μ-loop (λ c κs. search needs) loop-holds (λ c κs. search needs) (λ c κs. search needs)
+    (λ c κs. search needs) returns frame-at-requires (λ c. search needs) (λ c κs. search needs) (λ c κs. search needs)
+    returns-2 take-frame-requires (λ c. search needs) (λ c. search needs) loop-again (λ c. search needs)
+    (λ c κs. search needs) returns-3 returns-4)

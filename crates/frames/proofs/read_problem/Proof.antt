@@ -10,19 +10,13 @@ use Rattle.frames.specs.Read.{readWithin, told}
 use Rattle.frames.proofs.read_problem.Statement.{statement}
 use Rattle.frames.proofs.read_problem.Tie as tie
 
-blank-requires : tie.Need-blank-requires
-blank-requires c κs = search needs
-
 returns : tie.Need-returns
 unfolding readWithin told unless
 returns c = c .blank .ensures ∙ rw (lt-leb (length (c .before .before .before .args .text .now)) 1024 (omega arith))
-
-read-lines-requires : tie.Need-read-lines-requires
-read-lines-requires c κs = search needs
 
 returns-2 : tie.Need-returns-2
 unfolding readWithin unless
 returns-2 c = c .read-lines .ensures ∙ rw (le-leb (length (c .before .before .before .args .text .now)) 1024 (omega arith))
 
 pub read-problem-spec : {M : Type 1} → statement M
-read-problem-spec = tie.close (tie.spec blank-requires returns read-lines-requires returns-2)
+read-problem-spec = tie.close (tie.spec (λ c κs. search needs) returns (λ c κs. search needs) returns-2)

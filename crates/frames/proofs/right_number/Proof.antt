@@ -12,9 +12,6 @@ returns c =
     let a = c .before .before .before .args in
     sym (number-over (a .n) (a .kind) (a .number) (omega arith) (omega arith) (omega arith))
 
-add-result : tie.Need-add-result
-add-result c = search needs
-
 returns-2 : tie.Need-returns-2
 returns-2 c =
     let a = c .before .before .before .args in
@@ -31,4 +28,4 @@ returns-4 c =
     sym (number-none (a .n) (a .kind) (a .number) (λ e. omega arith) (λ e. omega arith))
 
 pub right-number-spec : {M : Type 1} → statement M
-right-number-spec = tie.close (tie.spec returns add-result returns-2 returns-3 returns-4)
+right-number-spec = tie.close (tie.spec returns (λ c. search needs) returns-2 returns-3 returns-4)

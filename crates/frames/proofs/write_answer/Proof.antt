@@ -46,14 +46,8 @@ first c =
       ap length e ∙ simp length-sets,
     )
 
-can-write-requires : tie.Need-can-write-requires
-can-write-requires c κs = search needs
-
 returns : tie.Need-returns
 returns c = not-written _ _ _ (sym (c .before .can-write .ensures) ∙ not-true _ (c .if1 .taken))
-
-verdict-frame-requires : tie.Need-verdict-frame-requires
-verdict-frame-requires c κs = search needs
 
 put-frame-requires : tie.Need-put-frame-requires
 unfolding verdictFrame
@@ -72,9 +66,6 @@ put-frame-requires-2 c κs =
     let e = simp length-sets at (ap length (c .before .before .before .put-slots .ensures .1)) in
     (omega arith, omega (arith, f .0, f .2, within q .0, can (q .before) .3, c .before .before .before .put-slots .ensures .0))
 
-same-length : tie.Need-same-length
-same-length c = search needs
-
 returns-2 : tie.Need-returns-2
 returns-2 c =
     let q = c .before .before .before .before .before .before .before .before .before .before .before .before .before in
@@ -89,11 +80,5 @@ pub write-answer-spec : {M : Type 1} → statement M
 write-answer-spec =
     tie.close
     (tie.spec
-    can-write-requires
-    returns
-    verdict-frame-requires
-    put-frame-requires
-    put-slots-requires
-    put-frame-requires-2
-    same-length
-    returns-2)
+    (λ c κs. search needs) returns (λ c κs. search needs) put-frame-requires put-slots-requires put-frame-requires-2
+    (λ c. search needs) returns-2)

@@ -14,9 +14,6 @@ use Rattle.laws.proofs.lcm.Tie as tie
 returns : tie.Need-returns
 returns c = lcm-zero _ _ (c .if1 .taken)
 
-gcd-requires : tie.Need-gcd-requires
-gcd-requires c κs = search needs
-
 div-result : tie.Need-div-result
 div-result c = omega (arith, gcd-pos _ _ _ (gcd-of (c .before .before .args .a) (c .before .before .args .b)) (omega arith))
 
@@ -33,4 +30,4 @@ unfolding lcmOf
 returns-2 c = ap (λ g. c .before .before .args .a / g * c .before .before .args .b) (c .gcd .ensures)
 
 pub lcm-spec : {M : Type 1} → statement M
-lcm-spec = tie.close (tie.spec returns gcd-requires div-result cast-result mul-result returns-2)
+lcm-spec = tie.close (tie.spec returns (λ c κs. search needs) div-result cast-result mul-result returns-2)

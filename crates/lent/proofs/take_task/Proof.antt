@@ -7,21 +7,14 @@ use borrow.Author.Needs.{needs}
 use Rattle.lent.proofs.take_task.Statement.{statement}
 use Rattle.lent.proofs.take_task.Tie as tie
 
-task-refusal-requires : tie.Need-task-refusal-requires
-task-refusal-requires c κs = search needs
-
-refused-requires : tie.Need-refused-requires
-refused-requires c κs = search needs
-
 returns : tie.Need-returns
 returns c = c .refused .ensures ∙ taken-refused _ _ _ _ (c .before .before .task-refusal .ensures) (c .before .if1 .taken)
-
-add-task-requires : tie.Need-add-task-requires
-add-task-requires c κs = search needs
 
 returns-2 : tie.Need-returns-2
 returns-2 c = taken-added _ _ _ _ _ (c .before .before .before .task-refusal .ensures) (omega (arith, c .before .before .if1 .left)) (c .add-task .ensures)
 
 pub take-task-spec : {M : Type 1} → statement M
 take-task-spec =
-    tie.close (tie.spec task-refusal-requires refused-requires returns add-task-requires returns-2)
+    tie.close
+    (tie.spec
+    (λ c κs. search needs) (λ c κs. search needs) returns (λ c κs. search needs) returns-2)

@@ -20,19 +20,10 @@ abbrev μ-loop : tie.MeasureT-loop
 loop-holds : tie.Need-loop-holds Inv-loop μ-loop
 loop-holds c = (omega arith, refl)
 
-sub-if1 : tie.Need-sub-if1 Inv-loop μ-loop
-sub-if1 c = search needs
-
 returns : tie.Need-returns Inv-loop μ-loop
 returns c =
     let a = c .before .before .before .before in
     sym (c .before .before .loop .inv .1 ∙ pairs-odd (a .args .text .now) (a .args .to) (a .pre .1) _ (c .before .loop-test .taken) (c .if1 .taken))
-
-shared-slice-read-is-digit : tie.Need-shared-slice-read-is-digit Inv-loop μ-loop
-shared-slice-read-is-digit c = search needs
-
-is-digit-requires : tie.Need-is-digit-requires Inv-loop μ-loop
-is-digit-requires c κs = search needs
 
 returns-2 : tie.Need-returns-2 Inv-loop μ-loop
 returns-2 c =
@@ -41,15 +32,6 @@ returns-2 c =
     sym (i .inv .1 ∙ pair-first (a .args .text .now) (a .args .to) (a .pre .1) (i .i) (omega arith)
     (sym (c .before .is-digit .ensures) ∙ not-true _ (c .if2 .taken)))
 
-add-is-digit : tie.Need-add-is-digit Inv-loop μ-loop
-add-is-digit c = search needs
-
-shared-slice-read-is-digit-2 : tie.Need-shared-slice-read-is-digit-2 Inv-loop μ-loop
-shared-slice-read-is-digit-2 c = search needs
-
-is-digit-requires-2 : tie.Need-is-digit-requires-2 Inv-loop μ-loop
-is-digit-requires-2 c κs = search needs
-
 returns-3 : tie.Need-returns-3 Inv-loop μ-loop
 returns-3 c =
     let a = c .before .before .before .before .before .before .before .before .before .before in
@@ -57,12 +39,6 @@ returns-3 c =
     sym (i .inv .1 ∙ pair-second (a .args .text .now) (a .args .to) (a .pre .1) (i .i) (omega arith)
     (sym (c .before .before .before .before .is-digit .ensures) ∙ not-false _ (c .before .before .before .if2 .left))
     (sym (c .before .is-digit2 .ensures) ∙ not-true _ (c .if3 .taken)))
-
-add-i : tie.Need-add-i Inv-loop μ-loop
-add-i c = search needs
-
-loop-less : tie.Need-loop-less Inv-loop μ-loop
-loop-less c = search needs
 
 loop-again : tie.Need-loop-again Inv-loop μ-loop
 loop-again c =
@@ -83,19 +59,6 @@ pub are-pairs-spec : {M : Type 1} → statement M
 are-pairs-spec =
     tie.close
     (tie.spec
-    Inv-loop
-    μ-loop
-    loop-holds
-    sub-if1
-    returns
-    shared-slice-read-is-digit
-    is-digit-requires
-    returns-2
-    add-is-digit
-    shared-slice-read-is-digit-2
-    is-digit-requires-2
-    returns-3
-    add-i
-    loop-less
-    loop-again
-    returns-4)
+    Inv-loop μ-loop loop-holds (λ c. search needs) returns (λ c. search needs) (λ c κs. search needs) returns-2
+    (λ c. search needs) (λ c. search needs) (λ c κs. search needs) returns-3 (λ c. search needs) (λ c. search needs)
+    loop-again returns-4)

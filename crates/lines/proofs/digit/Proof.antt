@@ -7,9 +7,6 @@ use Rattle.lines.proofs.FrameLaws.{inside, below, above}
 use Rattle.lines.proofs.digit.Statement.{statement}
 use Rattle.lines.proofs.digit.Tie as tie
 
-add-result : tie.Need-add-result
-add-result c = search needs
-
 returns : tie.Need-returns
 unfolding digitOf
 returns c = (rw (inside 48 57 (c .before .before .args .c) (omega arith) (omega arith)), omega arith)
@@ -39,4 +36,4 @@ returns-5 c =
     (rw (above 48 57 k (omega arith), above 65 70 k (omega arith)), omega arith)
 
 pub digit-spec : {M : Type 1} → statement M
-digit-spec = tie.close (tie.spec add-result returns returns-2 returns-3 returns-4 returns-5)
+digit-spec = tie.close (tie.spec (λ c. search needs) returns returns-2 returns-3 returns-4 returns-5)

@@ -19,39 +19,9 @@ Inv-loop text from to count frame₀ k₀ frame k = (k ≤ count) × (frame ≡ 
 abbrev μ-loop : tie.MeasureT-loop
 μ-loop text from to count frame₀ k₀ frame k = count - k
 
-sub-count : tie.Need-sub-count Inv-loop μ-loop
-sub-count c = search needs
-
 loop-holds : tie.Need-loop-holds Inv-loop μ-loop
 unfolding filled tab
 loop-holds c = (omega arith, refl)
-
-mul-i : tie.Need-mul-i Inv-loop μ-loop
-mul-i c = search needs
-
-add-i : tie.Need-add-i Inv-loop μ-loop
-add-i c = search needs
-
-shared-slice-read-pair : tie.Need-shared-slice-read-pair Inv-loop μ-loop
-shared-slice-read-pair c = search needs
-
-add-pair : tie.Need-add-pair Inv-loop μ-loop
-add-pair c = search needs
-
-shared-slice-read-pair-2 : tie.Need-shared-slice-read-pair-2 Inv-loop μ-loop
-shared-slice-read-pair-2 c = search needs
-
-pair-requires : tie.Need-pair-requires Inv-loop μ-loop
-pair-requires c κs = search needs
-
-array-write-frame : tie.Need-array-write-frame Inv-loop μ-loop
-array-write-frame c = search needs
-
-add-k : tie.Need-add-k Inv-loop μ-loop
-add-k c = search needs
-
-loop-less : tie.Need-loop-less Inv-loop μ-loop
-loop-less c = search needs
 
 loop-again : tie.Need-loop-again Inv-loop μ-loop
 loop-again c =
@@ -73,18 +43,6 @@ pub frame-at-spec : {M : Type 1} → statement M
 frame-at-spec =
     tie.close
     (tie.spec
-    Inv-loop
-    μ-loop
-    sub-count
-    loop-holds
-    mul-i
-    add-i
-    shared-slice-read-pair
-    add-pair
-    shared-slice-read-pair-2
-    pair-requires
-    array-write-frame
-    add-k
-    loop-less
-    loop-again
-    returns)
+    Inv-loop μ-loop (λ c. search needs) loop-holds (λ c. search needs) (λ c. search needs) (λ c. search needs)
+    (λ c. search needs) (λ c. search needs) (λ c κs. search needs) (λ c. search needs) (λ c. search needs)
+    (λ c. search needs) loop-again returns)

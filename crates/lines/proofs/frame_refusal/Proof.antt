@@ -20,20 +20,11 @@ misplaced c = sym (c .before .before .sort-of .ensures) ∙ c .enum-told2 .given
 known : (c : tie.After-enum-told3) → sortOf (c .before .before .before .args .kind) ≡ Known
 known c = sym (c .before .before .sort-of .ensures) ∙ c .enum-told3 .given .1
 
-sort-of-requires : tie.Need-sort-of-requires
-sort-of-requires c κs = search needs
-
 enum-told : tie.Need-enum-told
 enum-told c = search needs
 
-enum-told-2 : tie.Need-enum-told-2
-enum-told-2 c = search needs
-
 length-refusal-requires : tie.Need-length-refusal-requires
 length-refusal-requires c κs = kind-low _ (ap isKind (misplaced c))
-
-enum-told-3 : tie.Need-enum-told-3
-enum-told-3 c = search needs
 
 length-refusal-requires-2 : tie.Need-length-refusal-requires-2
 length-refusal-requires-2 c κs = kind-low _ (ap isKind (known c))
@@ -54,12 +45,5 @@ pub frame-refusal-spec : {M : Type 1} → statement M
 frame-refusal-spec =
     tie.close
     (tie.spec
-    sort-of-requires
-    enum-told
-    enum-told-2
-    length-refusal-requires
-    enum-told-3
-    length-refusal-requires-2
-    returns
-    returns-2
-    returns-3)
+    (λ c κs. search needs) enum-told (λ c. search needs) length-refusal-requires (λ c. search needs)
+    length-refusal-requires-2 returns returns-2 returns-3)

@@ -7,12 +7,6 @@ use borrow.Author.Needs.{needs}
 use Rattle.lines.proofs.hex.Statement.{statement}
 use Rattle.lines.proofs.hex.Tie as tie
 
-add-result : tie.Need-add-result
-add-result c = search needs
-
-add-result-2 : tie.Need-add-result-2
-add-result-2 c = search needs
-
 returns : tie.Need-returns
 unfolding hexOf
 returns c = rw (lt-ltb (c .before .args .x) 10 (c .if1 .taken))
@@ -22,4 +16,4 @@ unfolding hexOf
 returns-2 c = rw (le-ltb (c .before .args .x) 10 (c .if1 .left)) (omega arith)
 
 pub hex-spec : {M : Type 1} → statement M
-hex-spec = tie.close (tie.spec add-result add-result-2 returns returns-2)
+hex-spec = tie.close (tie.spec (λ c. search needs) (λ c. search needs) returns returns-2)

@@ -7,9 +7,6 @@ use Rattle.lines.proofs.FrameLaws.{length-most}
 use Rattle.lines.proofs.length_of.Statement.{statement}
 use Rattle.lines.proofs.length_of.Tie as tie
 
-array-read-result : tie.Need-array-read-result
-array-read-result c = search needs
-
 cast-result : tie.Need-cast-result
 cast-result c = omega (arith, length-most (c .args .kind) (c .pre))
 
@@ -17,4 +14,4 @@ returns : tie.Need-returns
 returns c = (refl, length-most (c .args .kind) (c .pre))
 
 pub length-of-spec : {M : Type 1} → statement M
-length-of-spec = tie.close (tie.spec array-read-result cast-result returns)
+length-of-spec = tie.close (tie.spec (λ c. search needs) cast-result returns)

@@ -9,9 +9,6 @@ use Rattle.lines.specs.Refusal.{lengthRefusal}
 use Rattle.lines.proofs.length_refusal.Statement.{statement}
 use Rattle.lines.proofs.length_refusal.Tie as tie
 
-length-of-requires : tie.Need-length-of-requires
-length-of-requires c κs = search needs
-
 returns : tie.Need-returns
 unfolding lengthRefusal unless
 returns c =
@@ -25,4 +22,4 @@ returns-2 c =
     rw (ne-eqb (a .count) (lengthOfKind (a .kind)) (λ e. c .if1 .left (e ∙ sym (c .before .length-of .ensures .0))))
 
 pub length-refusal-spec : {M : Type 1} → statement M
-length-refusal-spec = tie.close (tie.spec length-of-requires returns returns-2)
+length-refusal-spec = tie.close (tie.spec (λ c κs. search needs) returns returns-2)

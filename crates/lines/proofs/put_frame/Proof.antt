@@ -17,33 +17,12 @@ Inv-loop out₀ at frame count k₀ out k = (k ≤ count) × (length out ≡ len
 abbrev μ-loop : tie.MeasureT-loop
 μ-loop out₀ at frame count k₀ out k = count - k
 
-array-read-length-of : tie.Need-array-read-length-of Inv-loop μ-loop
-array-read-length-of c = search needs
-
-length-of-requires : tie.Need-length-of-requires Inv-loop μ-loop
-length-of-requires c κs = search needs
-
 loop-holds : tie.Need-loop-holds Inv-loop μ-loop
 unfolding digits
 loop-holds c = (omega arith, refl, refl)
 
-mul-put-byte : tie.Need-mul-put-byte Inv-loop μ-loop
-mul-put-byte c = search needs
-
-add-put-byte : tie.Need-add-put-byte Inv-loop μ-loop
-add-put-byte c = search needs
-
-array-read-put-byte : tie.Need-array-read-put-byte Inv-loop μ-loop
-array-read-put-byte c = search needs
-
 put-byte-requires : tie.Need-put-byte-requires Inv-loop μ-loop
 put-byte-requires c κs = omega (arith, c .before .before .loop .inv .1)
-
-add-k : tie.Need-add-k Inv-loop μ-loop
-add-k c = search needs
-
-loop-less : tie.Need-loop-less Inv-loop μ-loop
-loop-less c = search needs
 
 loop-again : tie.Need-loop-again Inv-loop μ-loop
 loop-again c =
@@ -52,23 +31,8 @@ loop-again c =
     (c .before .before .before .before .before .loop .inv .2) (c .before .before .put-byte .ensures) in
     (omega arith, ap length e ∙ simp length-sets, e)
 
-mul-out : tie.Need-mul-out Inv-loop μ-loop
-mul-out c = search needs
-
-add-out : tie.Need-add-out Inv-loop μ-loop
-add-out c = search needs
-
 slice-write-out : tie.Need-slice-write-out Inv-loop μ-loop
 slice-write-out c = omega arith
-
-mul-result : tie.Need-mul-result Inv-loop μ-loop
-mul-result c = search needs
-
-add-result : tie.Need-add-result Inv-loop μ-loop
-add-result c = search needs
-
-add-result-2 : tie.Need-add-result-2 Inv-loop μ-loop
-add-result-2 c = search needs
 
 same-length : tie.Need-same-length Inv-loop μ-loop
 same-length c = simp length-set (omega arith)
@@ -85,23 +49,6 @@ pub put-frame-spec : {M : Type 1} → statement M
 put-frame-spec =
     tie.close
     (tie.spec
-    Inv-loop
-    μ-loop
-    array-read-length-of
-    length-of-requires
-    loop-holds
-    mul-put-byte
-    add-put-byte
-    array-read-put-byte
-    put-byte-requires
-    add-k
-    loop-less
-    loop-again
-    mul-out
-    add-out
-    slice-write-out
-    mul-result
-    add-result
-    add-result-2
-    same-length
-    returns)
+    Inv-loop μ-loop (λ c. search needs) (λ c κs. search needs) loop-holds (λ c. search needs) (λ c. search needs)
+    (λ c. search needs) put-byte-requires (λ c. search needs) (λ c. search needs) loop-again (λ c. search needs)
+    (λ c. search needs) slice-write-out (λ c. search needs) (λ c. search needs) (λ c. search needs) same-length returns)

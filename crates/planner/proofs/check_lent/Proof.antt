@@ -9,11 +9,8 @@ use Rattle.planner.proofs.check_lent.Tie as tie
 returns : tie.Need-returns
 returns c = λ ts s. checked-refused s (c .if1 .taken) _
 
-check-table-requires : tie.Need-check-table-requires
-check-table-requires c κs = search needs
-
 returns-2 : tie.Need-returns-2
 returns-2 c = λ ts s. check-same s (omega (arith, c .before .before .if1 .left)) _ _ (c .check-table .ensures)
 
 pub check-lent-spec : {M : Type 1} → statement M
-check-lent-spec = tie.close (tie.spec returns check-table-requires returns-2)
+check-lent-spec = tie.close (tie.spec returns (λ c κs. search needs) returns-2)

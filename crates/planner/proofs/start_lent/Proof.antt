@@ -9,11 +9,8 @@ use Rattle.planner.proofs.start_lent.Tie as tie
 returns : tie.Need-returns
 returns c = λ ts s. start-refused s (c .if1 .taken) _ _ _
 
-start-record-requires : tie.Need-start-record-requires
-start-record-requires c κs = search needs
-
 returns-2 : tie.Need-returns-2
 returns-2 c = λ ts s. start-same s (omega (arith, c .before .before .if1 .left)) _ _ _ _ _ (c .start-record .ensures)
 
 pub start-lent-spec : {M : Type 1} → statement M
-start-lent-spec = tie.close (tie.spec returns start-record-requires returns-2)
+start-lent-spec = tie.close (tie.spec returns (λ c κs. search needs) returns-2)

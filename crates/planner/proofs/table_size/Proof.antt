@@ -5,12 +5,6 @@ use borrow.Author.Needs.{needs}
 use Rattle.planner.proofs.table_size.Statement.{statement}
 use Rattle.planner.proofs.table_size.Tie as tie
 
-test-list-requires : tie.Need-test-list-requires
-test-list-requires c κs = search needs
-
-enum-known-soundness : tie.Need-enum-known-soundness
-enum-known-soundness c = search needs
-
 enum-told : tie.Need-enum-told
 enum-told c = search needs
 
@@ -21,5 +15,4 @@ returns-2 : tie.Need-returns-2
 returns-2 c = size-refused _ _ _ _ (c .before .before .test-list .ensures) (c .enum-told .given .1)
 
 pub table-size-spec : {M : Type 1} → statement M
-table-size-spec =
-    tie.close (tie.spec test-list-requires enum-known-soundness enum-told returns returns-2)
+table-size-spec = tie.close (tie.spec (λ c κs. search needs) (λ c. search needs) enum-told returns returns-2)

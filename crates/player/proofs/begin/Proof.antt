@@ -8,12 +8,6 @@ use Rattle.player.proofs.begin.Tie as tie
 returns : tie.Need-returns
 returns c = start-refused _ _ _ _ _ _ (c .before .before .pre) (c .if1 .taken)
 
-test-list-requires : tie.Need-test-list-requires
-test-list-requires c κs = search needs
-
-enum-known-h : tie.Need-enum-known-h
-enum-known-h c = search needs
-
 record-of-requires : tie.Need-record-of-requires
 record-of-requires c κs = let d = c .before .before .before in startable _ _ _ _ (d .before .before .before .pre) (d .before .if1 .left) _ (d .test-list .ensures) _ (c .before .h .given .1)
 
@@ -30,10 +24,4 @@ pub begin-spec : {M : Type 1} → statement M
 begin-spec =
     tie.close
     (tie.spec
-    returns
-    test-list-requires
-    enum-known-h
-    record-of-requires
-    enum-told
-    returns-2
-    returns-3)
+    returns (λ c κs. search needs) (λ c. search needs) record-of-requires enum-told returns-2 returns-3)

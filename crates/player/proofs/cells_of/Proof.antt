@@ -16,23 +16,8 @@ Inv-loop table count cells₀ c₀ cells c = (c ≤ count) × (cells ≡ padded 
 abbrev μ-loop : tie.MeasureT-loop
 μ-loop table count cells₀ c₀ cells c = count - c
 
-no-cells-requires : tie.Need-no-cells-requires Inv-loop μ-loop
-no-cells-requires c κs = search needs
-
 loop-holds : tie.Need-loop-holds Inv-loop μ-loop
 loop-holds c = (search needs, c .no-cells .ensures ∙ padded-none 4096 _)
-
-shared-slice-read-cells : tie.Need-shared-slice-read-cells Inv-loop μ-loop
-shared-slice-read-cells c = search needs
-
-array-write-cells : tie.Need-array-write-cells Inv-loop μ-loop
-array-write-cells c = search needs
-
-add-c : tie.Need-add-c Inv-loop μ-loop
-add-c c = search needs
-
-loop-less : tie.Need-loop-less Inv-loop μ-loop
-loop-less c = search needs
 
 loop-again : tie.Need-loop-again Inv-loop μ-loop
 loop-again c = (search needs, padded-more _ _ _ _ (c .before .before .loop .inv .1) (omega arith))
@@ -44,13 +29,5 @@ pub cells-of-spec : {M : Type 1} → statement M
 cells-of-spec =
     tie.close
     (tie.spec
-    Inv-loop
-    μ-loop
-    no-cells-requires
-    loop-holds
-    shared-slice-read-cells
-    array-write-cells
-    add-c
-    loop-less
-    loop-again
-    returns)
+    Inv-loop μ-loop (λ c κs. search needs) loop-holds (λ c. search needs) (λ c. search needs) (λ c. search needs)
+    (λ c. search needs) loop-again returns)

@@ -5,24 +5,6 @@ use borrow.Author.Needs.{needs}
 use Rattle.player.proofs.first_shown.Statement.{statement}
 use Rattle.player.proofs.first_shown.Tie as tie
 
-stays-requires : tie.Need-stays-requires
-stays-requires c κs = search needs
-
-array-read-answer : tie.Need-array-read-answer
-array-read-answer c = search needs
-
-array-read-answer-2 : tie.Need-array-read-answer-2
-array-read-answer-2 c = search needs
-
-array-read-answer-3 : tie.Need-array-read-answer-3
-array-read-answer-3 c = search needs
-
-array-read-answer-4 : tie.Need-array-read-answer-4
-array-read-answer-4 c = search needs
-
-answer-requires : tie.Need-answer-requires
-answer-requires c κs = search needs
-
 returns : tie.Need-returns
 returns c = first-is _ _ _ _ (c .before .before .before .before .pre) (c .before .stays .ensures) (c .answer .ensures)
 
@@ -30,10 +12,5 @@ pub first-shown-spec : {M : Type 1} → statement M
 first-shown-spec =
     tie.close
     (tie.spec
-    stays-requires
-    array-read-answer
-    array-read-answer-2
-    array-read-answer-3
-    array-read-answer-4
-    answer-requires
-    returns)
+    (λ c κs. search needs) (λ c. search needs) (λ c. search needs) (λ c. search needs) (λ c. search needs)
+    (λ c κs. search needs) returns)

@@ -13,17 +13,8 @@ use Rattle.player.proofs.next_of.Tie as tie
 in-time : (c : tie.After-elapsed) → let a = c .before .before .before .args in Unspoilt (numbers (a .last) (a .h) (a .position) (a .age) (a .m) (a .n)) × (c .elapsed .result < 2 ^ 31)
 in-time c = refused-not _ _ _ _ (c .before .before .step-refusal .ensures) (c .before .if1 .left) (c .elapsed .ensures)
 
-step-refusal-requires : tie.Need-step-refusal-requires
-step-refusal-requires c κs = search needs
-
-stays-requires : tie.Need-stays-requires
-stays-requires c κs = search needs
-
 returns : tie.Need-returns
 returns c = c .stays .ensures ∙ next-refused _ _ _ (c .before .before .step-refusal .ensures) (c .before .if1 .taken)
-
-elapsed-requires : tie.Need-elapsed-requires
-elapsed-requires c κs = search needs
 
 add-slot : tie.Need-add-slot
 add-slot c = let k = in-time c in omega arith
@@ -40,9 +31,6 @@ mul-at c = record { fits = cells-below _ (in-time c .0) (omega arith) }
 cast-moved : tie.Need-cast-moved
 cast-moved c = record { fits = slot-below _ (in-time c .0) (omega arith) }
 
-missed-requires : tie.Need-missed-requires
-missed-requires c κs = search needs
-
 older-requires : tie.Need-older-requires
 older-requires c κs = in-time (c .before) .1
 
@@ -53,15 +41,5 @@ pub next-of-spec : {M : Type 1} → statement M
 next-of-spec =
     tie.close
     (tie.spec
-    step-refusal-requires
-    stays-requires
-    returns
-    elapsed-requires
-    add-slot
-    rem-slot
-    cast-at
-    mul-at
-    cast-moved
-    missed-requires
-    older-requires
-    returns-2)
+    (λ c κs. search needs) (λ c κs. search needs) returns (λ c κs. search needs) add-slot rem-slot cast-at mul-at
+    cast-moved (λ c κs. search needs) older-requires returns-2)

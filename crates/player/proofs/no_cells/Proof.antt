@@ -2,8 +2,5 @@ use borrow.Author.Needs.{needs}
 use Rattle.player.proofs.no_cells.Statement.{statement}
 use Rattle.player.proofs.no_cells.Tie as tie
 
-returns : tie.Need-returns
-returns c = search needs
-
 pub no-cells-spec : {M : Type 1} → statement M
-no-cells-spec = tie.close (tie.spec returns)
+no-cells-spec = tie.close (tie.spec (λ c. search needs))

@@ -15,21 +15,12 @@ use Rattle.player.proofs.offset_of.Tie as tie
 place-is : (c : tie.Joined1) → c .if1 .place ≡ pred (c .before .args .cell)
 place-is c = ⊎-elim (λ w. omega (arith, sub-one (c .before .args .cell))) (λ w. omega (arith, sub-one (c .before .args .cell))) (c .if1 .came)
 
-sub-place : tie.Need-sub-place
-sub-place c = search needs
-
 returns : tie.Need-returns
 returns c = let s = c .before .before .args .t1 in
     sym (ap (nth s) (sym (place-is (c .before))) ∙ List·getD-eq-default s 0 {n = c .before .if1 .place} (omega (arith, c .before .before .good .0 .1 .0 .1)))
-
-mul-result : tie.Need-mul-result
-mul-result c = search needs
-
-array-read-result : tie.Need-array-read-result
-array-read-result c = search needs
 
 returns-2 : tie.Need-returns-2
 returns-2 c = ap (nth (c .before .before .before .args .t1)) (place-is (c .before .before))
 
 pub offset-of-spec : {M : Type 1} → statement M
-offset-of-spec = tie.close (tie.spec sub-place returns mul-result array-read-result returns-2)
+offset-of-spec = tie.close (tie.spec (λ c. search needs) returns (λ c. search needs) (λ c. search needs) returns-2)

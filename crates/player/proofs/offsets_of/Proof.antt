@@ -16,29 +16,8 @@ Inv-loop list n offsets₀ k₀ offsets k = (k ≤ n) × (offsets ≡ padded 16 
 abbrev μ-loop : tie.MeasureT-loop
 μ-loop list n offsets₀ k₀ offsets k = n - k
 
-cast-n : tie.Need-cast-n Inv-loop μ-loop
-cast-n c = search needs
-
 loop-holds : tie.Need-loop-holds Inv-loop μ-loop
 loop-holds c = (search needs, padded-none 16 _)
-
-mul-offsets : tie.Need-mul-offsets Inv-loop μ-loop
-mul-offsets c = search needs
-
-element-copy-out-offsets : tie.Need-element-copy-out-offsets Inv-loop μ-loop
-element-copy-out-offsets c = search needs
-
-mul-offsets-2 : tie.Need-mul-offsets-2 Inv-loop μ-loop
-mul-offsets-2 c = search needs
-
-array-write-offsets : tie.Need-array-write-offsets Inv-loop μ-loop
-array-write-offsets c = search needs
-
-add-k : tie.Need-add-k Inv-loop μ-loop
-add-k c = search needs
-
-loop-less : tie.Need-loop-less Inv-loop μ-loop
-loop-less c = search needs
 
 loop-again : tie.Need-loop-again Inv-loop μ-loop
 loop-again c = (search needs, padded-more _ _ _ _ (c .before .before .loop .inv .1) (omega arith))
@@ -50,15 +29,5 @@ pub offsets-of-spec : {M : Type 1} → statement M
 offsets-of-spec =
     tie.close
     (tie.spec
-    Inv-loop
-    μ-loop
-    cast-n
-    loop-holds
-    mul-offsets
-    element-copy-out-offsets
-    mul-offsets-2
-    array-write-offsets
-    add-k
-    loop-less
-    loop-again
-    returns)
+    Inv-loop μ-loop (λ c. search needs) loop-holds (λ c. search needs) (λ c. search needs) (λ c. search needs)
+    (λ c. search needs) (λ c. search needs) (λ c. search needs) loop-again returns)

@@ -6,12 +6,6 @@ use borrow.Author.Needs.{needs}
 use Rattle.player.proofs.record_of.Statement.{statement}
 use Rattle.player.proofs.record_of.Tie as tie
 
-offsets-of-requires : tie.Need-offsets-of-requires
-offsets-of-requires c κs = search needs
-
-mul-cells-of : tie.Need-mul-cells-of
-mul-cells-of c = search needs
-
 cells-of-requires : tie.Need-cells-of-requires
 cells-of-requires c κs = let s = c .before .before .pre in (mul-le-mul (s .few-slots) (s .few-cores), s .room)
 
@@ -19,4 +13,4 @@ returns : tie.Need-returns
 returns c = made-record _ _ _ _ _ _ _ (c .before .before .before .pre) (c .before .offsets-of .ensures) (c .cells-of .ensures)
 
 pub record-of-spec : {M : Type 1} → statement M
-record-of-spec = tie.close (tie.spec offsets-of-requires mul-cells-of cells-of-requires returns)
+record-of-spec = tie.close (tie.spec (λ c κs. search needs) (λ c. search needs) cells-of-requires returns)

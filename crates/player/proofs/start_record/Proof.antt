@@ -7,12 +7,6 @@ use borrow.Author.Needs.{needs}
 use Rattle.player.proofs.start_record.Statement.{statement}
 use Rattle.player.proofs.start_record.Tie as tie
 
-verdict-of-requires : tie.Need-verdict-of-requires
-verdict-of-requires c κs = search needs
-
-begin-requires : tie.Need-begin-requires
-begin-requires c κs = search needs
-
 first-shown-requires : tie.Need-first-shown-requires
 first-shown-requires c κs = λ z. ap (λ q. q .position) (c .begin .ensures) ∙ start-slot _ _ _ _ _ _ (c .before .verdict-of .ensures) z
 
@@ -20,5 +14,4 @@ returns : tie.Need-returns
 returns c = (c .first-shown .ensures ∙ ap (λ q. firstShown q (c .before .before .verdict-of .result)) (c .before .begin .ensures) ∙ start-shows _ _ _ _ _ _ (c .before .before .verdict-of .ensures), c .before .begin .ensures)
 
 pub start-record-spec : {M : Type 1} → statement M
-start-record-spec =
-    tie.close (tie.spec verdict-of-requires begin-requires first-shown-requires returns)
+start-record-spec = tie.close (tie.spec (λ c κs. search needs) (λ c κs. search needs) first-shown-requires returns)

@@ -42,9 +42,6 @@ returns-6 c = sym (refused-spoilt _ _ (λ u. omega arith))
 returns-7 : tie.Need-returns-7
 returns-7 c = sym (refused-spoilt _ _ (λ u. omega arith))
 
-elapsed-requires : tie.Need-elapsed-requires
-elapsed-requires c κs = search needs
-
 returns-8 : tie.Need-returns-8
 returns-8 c = sym (refused-past _ _ (all-passed (c .before)) (omega arith))
 
@@ -55,13 +52,4 @@ pub step-refusal-spec : {M : Type 1} → statement M
 step-refusal-spec =
     tie.close
     (tie.spec
-    returns
-    returns-2
-    returns-3
-    returns-4
-    returns-5
-    returns-6
-    returns-7
-    elapsed-requires
-    returns-8
-    returns-9)
+    returns returns-2 returns-3 returns-4 returns-5 returns-6 returns-7 (λ c κs. search needs) returns-8 returns-9)

@@ -5,20 +5,8 @@ use borrow.Author.Needs.{needs}
 use Rattle.player.proofs.verdict_of.Statement.{statement}
 use Rattle.player.proofs.verdict_of.Tie as tie
 
-check-table-requires : tie.Need-check-table-requires
-check-table-requires c κs = search needs
-
 enum-told : tie.Need-enum-told
 enum-told c = search needs
-
-enum-told-2 : tie.Need-enum-told-2
-enum-told-2 c = search needs
-
-enum-told-3 : tie.Need-enum-told-3
-enum-told-3 c = search needs
-
-enum-known-told : tie.Need-enum-known-told
-enum-known-told c = search needs
 
 returns : tie.Need-returns
 returns c = told-valid _ _ _ _ (c .before .before .check-table .ensures) (c .enum-told .given .1)
@@ -36,12 +24,5 @@ pub verdict-of-spec : {M : Type 1} → statement M
 verdict-of-spec =
     tie.close
     (tie.spec
-    check-table-requires
-    enum-told
-    enum-told-2
-    enum-told-3
-    enum-known-told
-    returns
-    returns-2
-    returns-3
-    returns-4)
+    (λ c κs. search needs) enum-told (λ c. search needs) (λ c. search needs) (λ c. search needs) returns returns-2
+    returns-3 returns-4)

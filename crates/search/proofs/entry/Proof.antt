@@ -6,12 +6,6 @@ use Rattle.search.proofs.FillLaws.{told-job, entry-end, entry-early, en
 use Rattle.search.proofs.entry.Statement.{statement}
 use Rattle.search.proofs.entry.Tie as tie
 
-open-in-requires : tie.Need-open-in-requires
-open-in-requires c κs = search needs
-
-enum-known-window : tie.Need-enum-known-window
-enum-known-window c = search needs
-
 last-slot-requires : tie.Need-last-slot-requires
 last-slot-requires c κs = (search needs, search needs, search needs, told-job _ _ _ _ _ (c .before .before .before .before .pre .0) (c .before .before .before .open-in .ensures) (c .before .window .given .1) .0)
 
@@ -46,15 +40,5 @@ pub entry-spec : {M : Type 1} → statement M
 entry-spec =
     tie.close
     (tie.spec
-    open-in-requires
-    enum-known-window
-    last-slot-requires
-    mul-counter
-    add-counter
-    mul-result
-    add-result
-    mul-result-2
-    enum-told
-    returns
-    returns-2
-    returns-3)
+    (λ c κs. search needs) (λ c. search needs) last-slot-requires mul-counter add-counter mul-result add-result
+    mul-result-2 enum-told returns returns-2 returns-3)

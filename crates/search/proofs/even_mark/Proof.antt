@@ -10,12 +10,6 @@ returns : tie.Need-returns
 unfolding evenMark
 returns c = plain-mark _ _ (c .if1 .taken)
 
-task-at-requires : tie.Need-task-at-requires
-task-at-requires c κs = search needs
-
-even-rates-requires : tie.Need-even-rates-requires
-even-rates-requires c κs = search needs
-
 returns-2 : tie.Need-returns-2
 unfolding evenMark
 returns-2 c = quick-mark _ _ _ (c .before .before .before .before .if1 .left) (read-even _ _ _ _ _ (c .before .before .before .task-at .ensures) (c .before .even-rates .ensures)) (c .if2 .taken)
@@ -25,5 +19,4 @@ unfolding evenMark
 returns-3 c = quick-none _ _ _ (c .before .before .before .before .if1 .left) (read-even _ _ _ _ _ (c .before .before .before .task-at .ensures) (c .before .even-rates .ensures)) (c .if2 .left)
 
 pub even-mark-spec : {M : Type 1} → statement M
-even-mark-spec =
-    tie.close (tie.spec returns task-at-requires even-rates-requires returns-2 returns-3)
+even-mark-spec = tie.close (tie.spec returns (λ c κs. search needs) (λ c κs. search needs) returns-2 returns-3)

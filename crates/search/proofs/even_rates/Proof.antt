@@ -20,18 +20,9 @@ abbrev μ-loop : tie.MeasureT-loop
 loop-holds : tie.Need-loop-holds Inv-loop μ-loop
 loop-holds c = (search needs, below-none _)
 
-even-with-requires : tie.Need-even-with-requires Inv-loop μ-loop
-even-with-requires c κs = search needs
-
 returns : tie.Need-returns Inv-loop μ-loop
 unfolding rowEven
 returns c = one-fails _ _ _ _ (c .before .before .loop-test .taken) (c .before .even-with .ensures) (not-true _ (c .if1 .taken))
-
-add-a : tie.Need-add-a Inv-loop μ-loop
-add-a c = search needs
-
-loop-less : tie.Need-loop-less Inv-loop μ-loop
-loop-less c = search needs
 
 loop-again : tie.Need-loop-again Inv-loop μ-loop
 loop-again c = (search needs, below-more _ _ (c .before .before .before .loop .inv .1) (sym (c .before .even-with .ensures) ∙ not-false _ (c .if1 .left)))
@@ -44,12 +35,5 @@ pub even-rates-spec : {M : Type 1} → statement M
 even-rates-spec =
     tie.close
     (tie.spec
-    Inv-loop
-    μ-loop
-    loop-holds
-    even-with-requires
-    returns
-    add-a
-    loop-less
-    loop-again
+    Inv-loop μ-loop loop-holds (λ c κs. search needs) returns (λ c. search needs) (λ c. search needs) loop-again
     returns-2)

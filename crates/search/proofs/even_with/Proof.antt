@@ -21,24 +21,9 @@ abbrev μ-loop : tie.MeasureT-loop
 loop-holds : tie.Need-loop-holds Inv-loop μ-loop
 loop-holds c = (search needs, below-none _)
 
-array-read-even-pair : tie.Need-array-read-even-pair Inv-loop μ-loop
-array-read-even-pair c = search needs
-
-array-read-even-pair-2 : tie.Need-array-read-even-pair-2 Inv-loop μ-loop
-array-read-even-pair-2 c = search needs
-
-even-pair-requires : tie.Need-even-pair-requires Inv-loop μ-loop
-even-pair-requires c κs = search needs
-
 returns : tie.Need-returns Inv-loop μ-loop
 unfolding evenWith
 returns c = one-fails _ _ _ _ (c .before .before .loop-test .taken) (c .before .even-pair .ensures) (not-true _ (c .if1 .taken))
-
-add-b : tie.Need-add-b Inv-loop μ-loop
-add-b c = search needs
-
-loop-less : tie.Need-loop-less Inv-loop μ-loop
-loop-less c = search needs
 
 loop-again : tie.Need-loop-again Inv-loop μ-loop
 loop-again c = (search needs, below-more _ _ (c .before .before .before .loop .inv .1) (sym (c .before .even-pair .ensures) ∙ not-false _ (c .if1 .left)))
@@ -51,14 +36,5 @@ pub even-with-spec : {M : Type 1} → statement M
 even-with-spec =
     tie.close
     (tie.spec
-    Inv-loop
-    μ-loop
-    loop-holds
-    array-read-even-pair
-    array-read-even-pair-2
-    even-pair-requires
-    returns
-    add-b
-    loop-less
-    loop-again
-    returns-2)
+    Inv-loop μ-loop loop-holds (λ c. search needs) (λ c. search needs) (λ c κs. search needs) returns
+    (λ c. search needs) (λ c. search needs) loop-again returns-2)

@@ -20,24 +20,6 @@ abbrev μ-loop : tie.MeasureT-loop
 loop-holds : tie.Need-loop-holds Inv-loop μ-loop
 loop-holds c = (search needs, filled-none _ _ _)
 
-end-mark-requires : tie.Need-end-mark-requires Inv-loop μ-loop
-end-mark-requires c κs = search needs
-
-add-board : tie.Need-add-board Inv-loop μ-loop
-add-board c = search needs
-
-mul-board : tie.Need-mul-board Inv-loop μ-loop
-mul-board c = search needs
-
-element-write-board : tie.Need-element-write-board Inv-loop μ-loop
-element-write-board c = search needs
-
-add-slot : tie.Need-add-slot Inv-loop μ-loop
-add-slot c = search needs
-
-loop-less : tie.Need-loop-less Inv-loop μ-loop
-loop-less c = search needs
-
 loop-again : tie.Need-loop-again Inv-loop μ-loop
 loop-again c =
     let turn = c .before .before .before .loop .inv in
@@ -51,14 +33,5 @@ pub fill-ends-spec : {M : Type 1} → statement M
 fill-ends-spec =
     tie.close
     (tie.spec
-    Inv-loop
-    μ-loop
-    loop-holds
-    end-mark-requires
-    add-board
-    mul-board
-    element-write-board
-    add-slot
-    loop-less
-    loop-again
-    returns)
+    Inv-loop μ-loop loop-holds (λ c κs. search needs) (λ c. search needs) (λ c. search needs) (λ c. search needs)
+    (λ c. search needs) (λ c. search needs) loop-again returns)

@@ -20,24 +20,6 @@ abbrev μ-loop : tie.MeasureT-loop
 loop-holds : tie.Need-loop-holds Inv-loop μ-loop
 loop-holds c = (search needs, filled-none _ _ _)
 
-even-mark-requires : tie.Need-even-mark-requires Inv-loop μ-loop
-even-mark-requires c κs = search needs
-
-add-board : tie.Need-add-board Inv-loop μ-loop
-add-board c = search needs
-
-mul-board : tie.Need-mul-board Inv-loop μ-loop
-mul-board c = search needs
-
-element-write-board : tie.Need-element-write-board Inv-loop μ-loop
-element-write-board c = search needs
-
-add-v : tie.Need-add-v Inv-loop μ-loop
-add-v c = search needs
-
-loop-less : tie.Need-loop-less Inv-loop μ-loop
-loop-less c = search needs
-
 loop-again : tie.Need-loop-again Inv-loop μ-loop
 loop-again c = (search needs, filled-next _ _ _ _ _ _ (c .before .before .loop .inv .1) (c .even-mark .ensures))
 
@@ -48,14 +30,5 @@ pub fill-even-spec : {M : Type 1} → statement M
 fill-even-spec =
     tie.close
     (tie.spec
-    Inv-loop
-    μ-loop
-    loop-holds
-    even-mark-requires
-    add-board
-    mul-board
-    element-write-board
-    add-v
-    loop-less
-    loop-again
-    returns)
+    Inv-loop μ-loop loop-holds (λ c κs. search needs) (λ c. search needs) (λ c. search needs) (λ c. search needs)
+    (λ c. search needs) (λ c. search needs) loop-again returns)

@@ -18,29 +18,11 @@ Inv-loop board₀ list len n x₀ board x = (n ≡ len .0 * 16) × (x ≤ n) × 
 abbrev μ-loop : tie.MeasureT-loop
 μ-loop board₀ list len n x₀ board x = n - x
 
-cast-n : tie.Need-cast-n Inv-loop μ-loop
-cast-n c = search needs
-
-mul-n : tie.Need-mul-n Inv-loop μ-loop
-mul-n c = search needs
-
 loop-holds : tie.Need-loop-holds Inv-loop μ-loop
 loop-holds c = (search needs, search needs, filled-none _ _ _)
 
 grid-entry-requires : tie.Need-grid-entry-requires Inv-loop μ-loop
 grid-entry-requires c κs = (search needs, c .before .before .before .pre .2, search needs)
-
-mul-board : tie.Need-mul-board Inv-loop μ-loop
-mul-board c = search needs
-
-element-write-board : tie.Need-element-write-board Inv-loop μ-loop
-element-write-board c = search needs
-
-add-x : tie.Need-add-x Inv-loop μ-loop
-add-x c = search needs
-
-loop-less : tie.Need-loop-less Inv-loop μ-loop
-loop-less c = search needs
 
 loop-again : tie.Need-loop-again Inv-loop μ-loop
 loop-again c = (search needs, search needs, next-stored _ _ _ _ _ (c .before .before .loop .inv .2) (c .grid-entry .ensures))
@@ -52,15 +34,5 @@ pub fill-grid-spec : {M : Type 1} → statement M
 fill-grid-spec =
     tie.close
     (tie.spec
-    Inv-loop
-    μ-loop
-    cast-n
-    mul-n
-    loop-holds
-    grid-entry-requires
-    mul-board
-    element-write-board
-    add-x
-    loop-less
-    loop-again
-    returns)
+    Inv-loop μ-loop (λ c. search needs) (λ c. search needs) loop-holds grid-entry-requires (λ c. search needs)
+    (λ c. search needs) (λ c. search needs) (λ c. search needs) loop-again returns)

@@ -5,18 +5,6 @@ use Rattle.search.proofs.FillLaws.{read-fits, grid-task, grid-none}
 use Rattle.search.proofs.grid_entry.Statement.{statement}
 use Rattle.search.proofs.grid_entry.Tie as tie
 
-cast-if1 : tie.Need-cast-if1
-cast-if1 c = search needs
-
-task-at-requires : tie.Need-task-at-requires
-task-at-requires c κs = search needs
-
-cast-entry : tie.Need-cast-entry
-cast-entry c = search needs
-
-cast-t11 : tie.Need-cast-t11
-cast-t11 c = search needs
-
 entry-requires : tie.Need-entry-requires
 entry-requires c κs = (read-fits _ _ _ _ (c .task-at .ensures) (c .before .before .before .pre .1 _ (c .before .if1 .taken)), search needs, search needs)
 
@@ -29,4 +17,5 @@ returns-2 c = grid-none _ _ _ (c .if1 .left)
 pub grid-entry-spec : {M : Type 1} → statement M
 grid-entry-spec =
     tie.close
-    (tie.spec cast-if1 task-at-requires cast-entry cast-t11 entry-requires returns returns-2)
+    (tie.spec
+    (λ c. search needs) (λ c κs. search needs) (λ c. search needs) (λ c. search needs) entry-requires returns returns-2)

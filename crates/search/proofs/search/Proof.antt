@@ -6,32 +6,11 @@ use Rattle.search.proofs.AnswerLaws.{few-cells, list-refused, told-soun
 use Rattle.search.proofs.search.Statement.{statement}
 use Rattle.search.proofs.search.Tie as tie
 
-test-list-requires : tie.Need-test-list-requires
-test-list-requires c κs = search needs
-
-enum-known-soundness : tie.Need-enum-known-soundness
-enum-known-soundness c = search needs
-
-refused-requires : tie.Need-refused-requires
-refused-requires c κs = search needs
-
-enum-known-soundness-2 : tie.Need-enum-known-soundness-2
-enum-known-soundness-2 c = search needs
-
-refused-requires-2 : tie.Need-refused-requires-2
-refused-requires-2 c κs = search needs
-
 returns : tie.Need-returns
 returns c = engine-refused _ _ _ _ _ _ _ (c .before .before .before .before .before .test-list .ensures) (c .before .before .before .soundness2 .given .1) _ (omega (arith, c .before .if1 .taken)) (c .refused2 .ensures)
 
-cast-if2 : tie.Need-cast-if2
-cast-if2 c = search needs
-
 mul-if2 : tie.Need-mul-if2
 mul-if2 c = let h = told-sound _ _ _ _ (c .before .before .before .before .before .test-list .ensures) (c .before .before .before .soundness2 .given .1) in omega (arith, few-cells _ _ _ (h .0) (h .1))
-
-refused-requires-3 : tie.Need-refused-requires-3
-refused-requires-3 c κs = search needs
 
 returns-2 : tie.Need-returns-2
 returns-2 c = buffer-refused _ _ _ _ _ _ _ (c .before .before .before .before .before .before .before .test-list .ensures) (c .before .before .before .before .before .soundness2 .given .1) _ (c .before .before .before .if1 .left) (omega (arith, c .before .if2 .taken)) (c .refused3 .ensures)
@@ -42,9 +21,6 @@ walk-list-requires c κs = let h = told-sound _ _ _ _ (c .before .before .before
 returns-3 : tie.Need-returns-3
 returns-3 c = list-refused _ _ _ _ _ _ _ _ (c .before .before .before .before .test-list .ensures) (c .before .before .soundness .given .1) (c .refused .ensures)
 
-same-length : tie.Need-same-length
-same-length c = search needs
-
 returns-4 : tie.Need-returns-4
 returns-4 c = walk-answer _ _ _ _ _ _ _ (c .before .before .before .before .before .before .before .before .before .before .test-list .ensures) (c .before .before .before .before .before .before .before .before .soundness2 .given .1) _ (c .before .before .before .before .before .before .if1 .left) (c .before .before .before .before .if2 .left) (c .before .before .walk-list .ensures)
 
@@ -52,17 +28,6 @@ pub search-spec : {M : Type 1} → statement M
 search-spec =
     tie.close
     (tie.spec
-    test-list-requires
-    enum-known-soundness
-    refused-requires
-    enum-known-soundness-2
-    refused-requires-2
-    returns
-    cast-if2
-    mul-if2
-    refused-requires-3
-    returns-2
-    walk-list-requires
-    returns-3
-    same-length
+    (λ c κs. search needs) (λ c. search needs) (λ c κs. search needs) (λ c. search needs) (λ c κs. search needs) returns
+    (λ c. search needs) mul-if2 (λ c κs. search needs) returns-2 walk-list-requires returns-3 (λ c. search needs)
     returns-4)

@@ -10,12 +10,6 @@ returns : tie.Need-returns
 unfolding twinMark
 returns c = plain-mark _ _ (c .if1 .taken)
 
-cast-twin-cores : tie.Need-cast-twin-cores
-cast-twin-cores c = search needs
-
-twin-cores-requires : tie.Need-twin-cores-requires
-twin-cores-requires c κs = search needs
-
 returns-2 : tie.Need-returns-2
 unfolding twinMark
 returns-2 c = quick-mark _ _ _ (c .before .before .before .before .if1 .left) (c .before .twin-cores .ensures) (c .if2 .taken)
@@ -25,5 +19,4 @@ unfolding twinMark
 returns-3 c = quick-none _ _ _ (c .before .before .before .before .if1 .left) (c .before .twin-cores .ensures) (c .if2 .left)
 
 pub twin-mark-spec : {M : Type 1} → statement M
-twin-mark-spec =
-    tie.close (tie.spec returns cast-twin-cores twin-cores-requires returns-2 returns-3)
+twin-mark-spec = tie.close (tie.spec returns (λ c. search needs) (λ c κs. search needs) returns-2 returns-3)

@@ -11,32 +11,11 @@ use Rattle.search.proofs.walk_list.Tie as tie
 fill-board-requires : tie.Need-fill-board-requires
 fill-board-requires c κs = sound-fits _ _ _ (c .before .before .pre .0) (c .before .before .pre .1)
 
-fill-left-requires : tie.Need-fill-left-requires
-fill-left-requires c κs = search needs
-
-cast-n : tie.Need-cast-n
-cast-n c = search needs
-
-mul-n : tie.Need-mul-n
-mul-n c = search needs
-
-sub-start : tie.Need-sub-start
-sub-start c = search needs
-
 walk-requires : tie.Need-walk-requires
 walk-requires c κs = board-ready _ _ _ _ _ (c .before .before .before .before .before .before .before .before .before .before .pre .0) (c .before .before .before .before .before .before .before .before .before .before .pre .1) (c .before .before .before .before .before .before .before .fill-board .ensures)
 
-cast-tries : tie.Need-cast-tries
-cast-tries c = search needs
-
 sub-tries : tie.Need-sub-tries
 sub-tries c = omega (arith, counted-up _ _ _ _ _ (c .before .before .before .before .before .before .before .before .before .before .before .pre .0) (c .before .before .before .before .before .before .before .before .before .before .before .pre .1) (c .before .before .before .before .before .before .before .before .before .before .before .fits .limit .fits) _ _ (c .before .before .before .before .before .before .before .before .fill-board .ensures) (c .before .before .before .before .before .fill-left .ensures) _ _ _ (c .walk .ensures))
-
-clear-requires : tie.Need-clear-requires
-clear-requires c κs = search needs
-
-same-length : tie.Need-same-length
-same-length c = search needs
 
 returns : tie.Need-returns
 returns c = walk-told _ _ _ _ _ (c .before .before .before .before .before .before .before .before .before .before .before .before .before .before .before .before .pre .0) (c .before .before .before .before .before .before .before .before .before .before .before .before .before .before .before .before .pre .1) (c .before .before .before .before .before .before .before .before .before .before .before .before .before .before .before .before .fits .limit .fits) _ _ (c .before .before .before .before .before .before .before .before .before .before .before .before .before .fill-board .ensures) (c .before .before .before .before .before .before .before .before .before .before .fill-left .ensures) _ _ _ (c .before .before .before .before .before .walk .ensures) _ (c .before .before .before .before .before .before .before .before .before .before .before .before .before .before .before .before .pre .3) _ _ (none (c .before .before .before .before .if1 .taken) (c .before .before .clear .ensures))
@@ -44,17 +23,8 @@ returns c = walk-told _ _ _ _ _ (c .before .before .before .before .before .befo
 hand-over-requires : tie.Need-hand-over-requires
 hand-over-requires c κs = (omega (arith, few-cells _ _ _ (c .before .before .before .before .before .before .before .before .before .before .before .before .before .before .before .pre .0) (c .before .before .before .before .before .before .before .before .before .before .before .before .before .before .before .pre .1)), search needs)
 
-same-length-2 : tie.Need-same-length-2
-same-length-2 c = search needs
-
 returns-2 : tie.Need-returns-2
 returns-2 c = walk-told _ _ _ _ _ (c .before .before .before .before .before .before .before .before .before .before .before .before .before .before .before .before .before .before .pre .0) (c .before .before .before .before .before .before .before .before .before .before .before .before .before .before .before .before .before .before .pre .1) (c .before .before .before .before .before .before .before .before .before .before .before .before .before .before .before .before .before .before .fits .limit .fits) _ _ (c .before .before .before .before .before .before .before .before .before .before .before .before .before .before .before .fill-board .ensures) (c .before .before .before .before .before .before .before .before .before .before .before .before .fill-left .ensures) _ _ _ (c .before .before .before .before .before .before .before .walk .ensures) _ (c .before .before .before .before .before .before .before .before .before .before .before .before .before .before .before .before .before .before .pre .3) _ _ (found (c .before .before .before .before .before .before .if1 .left) (c .before .before .before .before .before .if2 .taken) (c .before .before .hand-over .ensures))
-
-clear-requires-2 : tie.Need-clear-requires-2
-clear-requires-2 c κs = search needs
-
-same-length-3 : tie.Need-same-length-3
-same-length-3 c = search needs
 
 returns-3 : tie.Need-returns-3
 returns-3 c = walk-told _ _ _ _ _ (c .before .before .before .before .before .before .before .before .before .before .before .before .before .before .before .before .before .pre .0) (c .before .before .before .before .before .before .before .before .before .before .before .before .before .before .before .before .before .pre .1) (c .before .before .before .before .before .before .before .before .before .before .before .before .before .before .before .before .before .fits .limit .fits) _ _ (c .before .before .before .before .before .before .before .before .before .before .before .before .before .before .fill-board .ensures) (c .before .before .before .before .before .before .before .before .before .before .before .fill-left .ensures) _ _ _ (c .before .before .before .before .before .before .walk .ensures) _ (c .before .before .before .before .before .before .before .before .before .before .before .before .before .before .before .before .before .pre .3) _ _ (stopped (c .before .before .before .before .if2 .left) (c .before .before .clear2 .ensures))
@@ -63,20 +33,6 @@ pub walk-list-spec : {M : Type 1} → statement M
 walk-list-spec =
     tie.close
     (tie.spec
-    fill-board-requires
-    fill-left-requires
-    cast-n
-    mul-n
-    sub-start
-    walk-requires
-    cast-tries
-    sub-tries
-    clear-requires
-    same-length
-    returns
-    hand-over-requires
-    same-length-2
-    returns-2
-    clear-requires-2
-    same-length-3
-    returns-3)
+    fill-board-requires (λ c κs. search needs) (λ c. search needs) (λ c. search needs) (λ c. search needs) walk-requires
+    (λ c. search needs) sub-tries (λ c κs. search needs) (λ c. search needs) returns hand-over-requires
+    (λ c. search needs) returns-2 (λ c κs. search needs) (λ c. search needs) returns-3)

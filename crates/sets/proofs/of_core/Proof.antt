@@ -5,12 +5,9 @@ use Rattle.sets.specs.Sets.{ofCore}
 use Rattle.sets.proofs.of_core.Statement.{statement}
 use Rattle.sets.proofs.of_core.Tie as tie
 
-shr-result : tie.Need-shr-result
-shr-result c = search needs
-
 returns : tie.Need-returns
 unfolding ofCore
 returns c = search needs
 
 pub of-core-spec : {M : Type 1} → statement M
-of-core-spec = tie.close (tie.spec shr-result returns)
+of-core-spec = tie.close (tie.spec (λ c. search needs) returns)

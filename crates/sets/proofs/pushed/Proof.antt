@@ -5,12 +5,9 @@ use Rattle.sets.specs.Sets.{pushed}
 use Rattle.sets.proofs.pushed.Statement.{statement}
 use Rattle.sets.proofs.pushed.Tie as tie
 
-add-result : tie.Need-add-result
-add-result c = search needs
-
 returns : tie.Need-returns
 unfolding pushed
 returns c = search needs
 
 pub pushed-spec : {M : Type 1} → statement M
-pushed-spec = tie.close (tie.spec add-result returns)
+pushed-spec = tie.close (tie.spec (λ c. search needs) returns)

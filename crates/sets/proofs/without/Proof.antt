@@ -11,15 +11,9 @@ use Rattle.sets.specs.Sets.{without}
 use Rattle.sets.proofs.without.Statement.{statement}
 use Rattle.sets.proofs.without.Tie as tie
 
-mul-result : tie.Need-mul-result
-mul-result c = search needs
-
-shl-result : tie.Need-shl-result
-shl-result c = search needs
-
 returns : tie.Need-returns
 unfolding without
 returns c = ap (λ m. bitXor (c .args .sets) (bitAnd (c .args .sets) m)) (shl-exact 4 (4 * c .args .task) 64 (lit< tt) (omega arith))
 
 pub without-spec : {M : Type 1} → statement M
-without-spec = tie.close (tie.spec mul-result shl-result returns)
+without-spec = tie.close (tie.spec (λ c. search needs) (λ c. search needs) returns)

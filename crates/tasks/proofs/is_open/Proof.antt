@@ -5,14 +5,8 @@ use borrow.Author.Needs.{needs}
 use Rattle.tasks.proofs.is_open.Statement.{statement}
 use Rattle.tasks.proofs.is_open.Tie as tie
 
-place-requires : tie.Need-place-requires
-place-requires c κs = search needs
-
-rem-result : tie.Need-rem-result
-rem-result c = search needs
-
 returns : tie.Need-returns
 returns c = search (needs, open-at)
 
 pub is-open-spec : {M : Type 1} → statement M
-is-open-spec = tie.close (tie.spec place-requires rem-result returns)
+is-open-spec = tie.close (tie.spec (λ c κs. search needs) (λ c. search needs) returns)

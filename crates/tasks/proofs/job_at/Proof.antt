@@ -5,14 +5,8 @@ use borrow.Author.Needs.{needs}
 use Rattle.tasks.proofs.job_at.Statement.{statement}
 use Rattle.tasks.proofs.job_at.Tie as tie
 
-place-requires : tie.Need-place-requires
-place-requires c κs = search needs
-
-div-result : tie.Need-div-result
-div-result c = search needs
-
 returns : tie.Need-returns
 returns c = search (needs, job-at)
 
 pub job-at-spec : {M : Type 1} → statement M
-job-at-spec = tie.close (tie.spec place-requires div-result returns)
+job-at-spec = tie.close (tie.spec (λ c κs. search needs) (λ c. search needs) returns)

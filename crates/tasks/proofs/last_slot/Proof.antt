@@ -16,9 +16,6 @@ add-first c = omega (arith, period-fits (c .before .before .pre .2) _ (c .before
 rem-first : tie.Need-rem-first
 rem-first c = pos-L (c .before .before .before .pre .2)
 
-sub-last : tie.Need-sub-last
-sub-last c = search needs
-
 add-last : tie.Need-add-last
 add-last c = record { fits = lt-trans (end-fits (c .before .before .before .before .pre .2) _ _) (omega arith) }
 
@@ -33,4 +30,6 @@ returns-2 c = let pre = c .before .before .before .before .before .before .pre i
 
 pub last-slot-spec : {M : Type 1} → statement M
 last-slot-spec =
-    tie.close (tie.spec mul-first add-first rem-first sub-last add-last sub-end returns returns-2)
+    tie.close
+    (tie.spec
+    mul-first add-first rem-first (λ c. search needs) add-last sub-end returns returns-2)

@@ -5,12 +5,6 @@ use borrow.Author.Needs.{needs}
 use Rattle.tasks.proofs.open_in.Statement.{statement}
 use Rattle.tasks.proofs.open_in.Tie as tie
 
-is-open-requires : tie.Need-is-open-requires
-is-open-requires c κs = search needs
-
-job-at-requires : tie.Need-job-at-requires
-job-at-requires c κs = search needs
-
 returns : tie.Need-returns
 returns c = window-open _ _ _ _ (c .before .before .is-open .ensures) (c .before .if1 .taken) _ (c .job-at .ensures)
 
@@ -18,4 +12,4 @@ returns-2 : tie.Need-returns-2
 returns-2 c = window-closed _ _ _ _ (c .before .is-open .ensures) (c .if1 .left)
 
 pub open-in-spec : {M : Type 1} → statement M
-open-in-spec = tie.close (tie.spec is-open-requires job-at-requires returns returns-2)
+open-in-spec = tie.close (tie.spec (λ c κs. search needs) (λ c κs. search needs) returns returns-2)

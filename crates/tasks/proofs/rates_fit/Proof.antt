@@ -21,24 +21,12 @@ abbrev μ-loop : tie.MeasureT-loop
 loop-holds : tie.Need-loop-holds Inv-loop μ-loop
 loop-holds c = (omega arith, below-none _)
 
-cast-if2 : tie.Need-cast-if2 Inv-loop μ-loop
-cast-if2 c = search needs
-
-array-read-if2 : tie.Need-array-read-if2 Inv-loop μ-loop
-array-read-if2 c = search needs
-
 -- the most that the code allows a rate
 most-is : (c : tie.Joined1 Inv-loop μ-loop) → c .if1 .most ≡ mostRate (c .before .before .before .before .args .m) (c .before .before .loop .j)
 most-is c = ⊎-elim (λ w. most-within _ _ _ (w .0 .taken) (w .1)) (λ w. most-beyond _ _ _ (w .0 .left) (w .1)) (c .if1 .came)
 
 returns : tie.Need-returns Inv-loop μ-loop
 returns c = rates-over _ _ _ _ (omega arith) (most-is (c .before)) (c .if2 .taken)
-
-add-j : tie.Need-add-j Inv-loop μ-loop
-add-j c = search needs
-
-loop-less : tie.Need-loop-less Inv-loop μ-loop
-loop-less c = search needs
 
 loop-again : tie.Need-loop-again Inv-loop μ-loop
 loop-again c = (omega arith, below-more _ _ (c .before .before .before .loop .inv .1) (subst (_≤_ _) (most-is (c .before)) (c .if2 .left)))
@@ -50,13 +38,5 @@ pub rates-fit-spec : {M : Type 1} → statement M
 rates-fit-spec =
     tie.close
     (tie.spec
-    Inv-loop
-    μ-loop
-    loop-holds
-    cast-if2
-    array-read-if2
-    returns
-    add-j
-    loop-less
-    loop-again
-    returns-2)
+    Inv-loop μ-loop loop-holds (λ c. search needs) (λ c. search needs) returns (λ c. search needs) (λ c. search needs)
+    loop-again returns-2)

@@ -18,30 +18,9 @@ Inv-loop list n h₀ i₀ h i = (i ≤ n) × (h ≡ lcmsOf i (periodAt (rows lis
 abbrev μ-loop : tie.MeasureT-loop
 μ-loop list n h₀ i₀ h i = n - i
 
-cast-n : tie.Need-cast-n Inv-loop μ-loop
-cast-n c = search needs
-
 loop-holds : tie.Need-loop-holds Inv-loop μ-loop
 unfolding lcmsOf
 loop-holds c = (omega arith, refl, omega arith)
-
-cast-lcm : tie.Need-cast-lcm Inv-loop μ-loop
-cast-lcm c = search needs
-
-mul-lcm : tie.Need-mul-lcm Inv-loop μ-loop
-mul-lcm c = search needs
-
-element-copy-out-lcm : tie.Need-element-copy-out-lcm Inv-loop μ-loop
-element-copy-out-lcm c = search needs
-
-cast-lcm-2 : tie.Need-cast-lcm-2 Inv-loop μ-loop
-cast-lcm-2 c = search needs
-
-lcm-requires : tie.Need-lcm-requires Inv-loop μ-loop
-lcm-requires c κs = search needs
-
-cast-if1 : tie.Need-cast-if1 Inv-loop μ-loop
-cast-if1 c = search needs
 
 -- the new h
 more : (c : tie.After-lcm Inv-loop μ-loop)
@@ -53,15 +32,6 @@ returns c =
     length-over _ (c .before .before .before .before .loop .i + 1) _ (c .before .before .before .before .before .pre .1)
     (omega (arith, rows-length (c .before .before .before .before .before .args .t1))) (more (c .before)) (c .if1 .taken)
 
-cast-h : tie.Need-cast-h Inv-loop μ-loop
-cast-h c = search needs
-
-add-i : tie.Need-add-i Inv-loop μ-loop
-add-i c = search needs
-
-loop-less : tie.Need-loop-less Inv-loop μ-loop
-loop-less c = search needs
-
 loop-again : tie.Need-loop-again Inv-loop μ-loop
 loop-again c = (omega arith, more (c .before), omega arith)
 
@@ -72,19 +42,6 @@ pub table-length-spec : {M : Type 1} → statement M
 table-length-spec =
     tie.close
     (tie.spec
-    Inv-loop
-    μ-loop
-    cast-n
-    loop-holds
-    cast-lcm
-    mul-lcm
-    element-copy-out-lcm
-    cast-lcm-2
-    lcm-requires
-    cast-if1
-    returns
-    cast-h
-    add-i
-    loop-less
-    loop-again
-    returns-2)
+    Inv-loop μ-loop (λ c. search needs) loop-holds (λ c. search needs) (λ c. search needs) (λ c. search needs)
+    (λ c. search needs) (λ c κs. search needs) (λ c. search needs) returns (λ c. search needs) (λ c. search needs)
+    (λ c. search needs) loop-again returns-2)

@@ -7,25 +7,16 @@ use borrow.Author.Needs.{needs}
 use Rattle.tasks.proofs.task_refusal.Statement.{statement}
 use Rattle.tasks.proofs.task_refusal.Tie as tie
 
-within-requires : tie.Need-within-requires
-within-requires c κs = search needs
-
 returns : tie.Need-returns
 unfolding taskRefusal
 returns c =
     refuses _ _ _ _ (c .before .within .ensures) (c .if1 .taken)
-
-within-requires-2 : tie.Need-within-requires-2
-within-requires-2 c κs = search needs
 
 returns-2 : tie.Need-returns-2
 unfolding taskRefusal
 returns-2 c =
     goes-on _ _ _ _ _ (c .before .before .before .within .ensures) (c .before .before .if1 .left)
     (refuses _ _ _ _ (c .before .within2 .ensures) (c .if2 .taken))
-
-within-requires-3 : tie.Need-within-requires-3
-within-requires-3 c κs = search needs
 
 returns-3 : tie.Need-returns-3
 unfolding taskRefusal
@@ -34,9 +25,6 @@ returns-3 c =
     (goes-on _ _ _ _ _ (c .before .before .before .within2 .ensures) (c .before .before .if2 .left)
     (refuses _ _ _ _ (c .before .within3 .ensures) (c .if3 .taken)))
 
-within-requires-4 : tie.Need-within-requires-4
-within-requires-4 c κs = search needs
-
 returns-4 : tie.Need-returns-4
 unfolding taskRefusal
 returns-4 c =
@@ -44,9 +32,6 @@ returns-4 c =
     (goes-on _ _ _ _ _ (c .before .before .before .before .before .within2 .ensures) (c .before .before .before .before .if2 .left)
     (goes-on _ _ _ _ _ (c .before .before .before .within3 .ensures) (c .before .before .if3 .left)
     (refuses _ _ _ _ (c .before .within4 .ensures) (c .if4 .taken))))
-
-rates-fit-requires : tie.Need-rates-fit-requires
-rates-fit-requires c κs = search needs
 
 returns-5 : tie.Need-returns-5
 unfolding taskRefusal
@@ -71,14 +56,5 @@ pub task-refusal-spec : {M : Type 1} → statement M
 task-refusal-spec =
     tie.close
     (tie.spec
-    within-requires
-    returns
-    within-requires-2
-    returns-2
-    within-requires-3
-    returns-3
-    within-requires-4
-    returns-4
-    rates-fit-requires
-    returns-5
-    returns-6)
+    (λ c κs. search needs) returns (λ c κs. search needs) returns-2 (λ c κs. search needs) returns-3
+    (λ c κs. search needs) returns-4 (λ c κs. search needs) returns-5 returns-6)

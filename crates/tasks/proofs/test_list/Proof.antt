@@ -11,24 +11,9 @@ use borrow.Author.Needs.{needs}
 use Rattle.tasks.proofs.test_list.Statement.{statement}
 use Rattle.tasks.proofs.test_list.Tie as tie
 
-cast-within : tie.Need-cast-within
-cast-within c = search needs
-
-cast-within-2 : tie.Need-cast-within-2
-cast-within-2 c = search needs
-
-within-requires : tie.Need-within-requires
-within-requires c κs = search needs
-
 returns : tie.Need-returns
 unfolding refusal
 returns c = refused-answer _ _ _ (λ z. omega arith) (refuses _ _ _ _ (count-test _ _ (c .before .within .ensures)) (c .if1 .taken))
-
-cast-within-3 : tie.Need-cast-within-3
-cast-within-3 c = search needs
-
-within-requires-2 : tie.Need-within-requires-2
-within-requires-2 c κs = search needs
 
 returns-2 : tie.Need-returns-2
 unfolding refusal
@@ -51,9 +36,6 @@ table-length-requires c κs = (
   within-passed _ _ _ _ (c .before .before .before .before .before .within .ensures) (c .before .before .before .before .if1 .left) .1,
   passed-periods _ _ _ (c .before .list-refusal .ensures) (c .if3 .left),
 )
-
-enum-known-length : tie.Need-enum-known-length
-enum-known-length c = search needs
 
 enum-told : tie.Need-enum-told
 enum-told c = search needs
@@ -81,17 +63,5 @@ pub test-list-spec : {M : Type 1} → statement M
 test-list-spec =
     tie.close
     (tie.spec
-    cast-within
-    cast-within-2
-    within-requires
-    returns
-    cast-within-3
-    within-requires-2
-    returns-2
-    list-refusal-requires
-    returns-3
-    table-length-requires
-    enum-known-length
-    enum-told
-    returns-4
-    returns-5)
+    (λ c. search needs) (λ c. search needs) (λ c κs. search needs) returns (λ c. search needs) (λ c κs. search needs)
+    returns-2 list-refusal-requires returns-3 table-length-requires (λ c. search needs) enum-told returns-4 returns-5)

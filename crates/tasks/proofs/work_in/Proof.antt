@@ -9,8 +9,5 @@ use Rattle.tasks.proofs.work_in.Tie as tie
 mul-t5 : tie.Need-mul-t5
 mul-t5 c = record { fits = lt-of-le-of-lt (mul-le-mul (c .pre .0) (c .pre .1)) (lit< tt) }
 
-returns : tie.Need-returns
-returns c = search needs
-
 pub work-in-spec : {M : Type 1} → statement M
-work-in-spec = tie.close (tie.spec mul-t5 returns)
+work-in-spec = tie.close (tie.spec mul-t5 (λ c. search needs))

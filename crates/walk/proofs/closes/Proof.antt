@@ -17,38 +17,14 @@ Inv-loop board left slot n task₀ task = (task ≤ n) × (n ≡ tasksOn board) 
 abbrev μ-loop : tie.MeasureT-loop
 μ-loop board left slot n task₀ task = n - task
 
-add-if1 : tie.Need-add-if1 Inv-loop μ-loop
-add-if1 c = search needs
-
-mul-if1 : tie.Need-mul-if1 Inv-loop μ-loop
-mul-if1 c = search needs
-
-element-copy-out-if1 : tie.Need-element-copy-out-if1 Inv-loop μ-loop
-element-copy-out-if1 c = search needs
-
 returns : tie.Need-returns Inv-loop μ-loop
 returns c = closes-none _ _ _ (c .if1 .taken)
-
-element-copy-out-wide : tie.Need-element-copy-out-wide Inv-loop μ-loop
-element-copy-out-wide c = search needs
-
-wide-requires : tie.Need-wide-requires Inv-loop μ-loop
-wide-requires c κs = search needs
 
 loop-holds : tie.Need-loop-holds Inv-loop μ-loop
 loop-holds c = (search needs, search needs, below-none _, c .before .before .if1 .left)
 
-settled-requires : tie.Need-settled-requires Inv-loop μ-loop
-settled-requires c κs = search needs
-
 returns-2 : tie.Need-returns-2 Inv-loop μ-loop
 returns-2 c = closes-not _ _ _ (c .before .before .before .loop .inv .3) _ _ (omega arith) (c .before .settled .ensures) (not-true _ (c .if2 .taken))
-
-add-task : tie.Need-add-task Inv-loop μ-loop
-add-task c = search needs
-
-loop-less : tie.Need-loop-less Inv-loop μ-loop
-loop-less c = search needs
 
 loop-again : tie.Need-loop-again Inv-loop μ-loop
 loop-again c = (search needs, search needs, below-more _ _ (c .before .before .before .loop .inv .2) (sym (c .before .settled .ensures) ∙ not-false _ (c .if2 .left)), c .before .before .before .loop .inv .3)
@@ -60,18 +36,6 @@ pub closes-spec : {M : Type 1} → statement M
 closes-spec =
     tie.close
     (tie.spec
-    Inv-loop
-    μ-loop
-    add-if1
-    mul-if1
-    element-copy-out-if1
-    returns
-    element-copy-out-wide
-    wide-requires
-    loop-holds
-    settled-requires
-    returns-2
-    add-task
-    loop-less
-    loop-again
-    returns-3)
+    Inv-loop μ-loop (λ c. search needs) (λ c. search needs) (λ c. search needs) returns (λ c. search needs)
+    (λ c κs. search needs) loop-holds (λ c κs. search needs) returns-2 (λ c. search needs) (λ c. search needs)
+    loop-again returns-3)

@@ -13,35 +13,11 @@ Inv-loop board left slot task₀ sets₀ task sets = (task ≤ tasksOn board) ×
 abbrev μ-loop : tie.MeasureT-loop
 μ-loop board left slot task₀ sets₀ task sets = task
 
-element-copy-out-wide : tie.Need-element-copy-out-wide Inv-loop μ-loop
-element-copy-out-wide c = search needs
-
-wide-requires : tie.Need-wide-requires Inv-loop μ-loop
-wide-requires c κs = search needs
-
 loop-holds : tie.Need-loop-holds Inv-loop μ-loop
 loop-holds c = (search needs, sets-none-yet _ _ _ _ (c .wide .ensures .0))
 
-sub-task : tie.Need-sub-task Inv-loop μ-loop
-sub-task c = search needs
-
-counter-requires : tie.Need-counter-requires Inv-loop μ-loop
-counter-requires c κs = search needs
-
-mul-work : tie.Need-mul-work Inv-loop μ-loop
-mul-work c = search needs
-
-element-copy-out-work : tie.Need-element-copy-out-work Inv-loop μ-loop
-element-copy-out-work c = search needs
-
-fit-requires : tie.Need-fit-requires Inv-loop μ-loop
-fit-requires c κs = search needs
-
 pushed-requires : tie.Need-pushed-requires Inv-loop μ-loop
 pushed-requires c κs = (sets-room _ _ _ _ _ (c .before .before .before .before .before .before .before .pre .1) (omega (arith, c .before .before .before .loop-test .taken)) (c .before .before .before .before .loop .inv .0) (c .before .before .before .before .loop .inv .1), c .fit .ensures .1)
-
-loop-less : tie.Need-loop-less Inv-loop μ-loop
-loop-less c = search needs
 
 loop-again : tie.Need-loop-again Inv-loop μ-loop
 loop-again c =
@@ -55,17 +31,6 @@ pub enter-spec : {M : Type 1} → statement M
 enter-spec =
     tie.close
     (tie.spec
-    Inv-loop
-    μ-loop
-    element-copy-out-wide
-    wide-requires
-    loop-holds
-    sub-task
-    counter-requires
-    mul-work
-    element-copy-out-work
-    fit-requires
-    pushed-requires
-    loop-less
-    loop-again
+    Inv-loop μ-loop (λ c. search needs) (λ c κs. search needs) loop-holds (λ c. search needs) (λ c κs. search needs)
+    (λ c. search needs) (λ c. search needs) (λ c κs. search needs) pushed-requires (λ c. search needs) loop-again
     returns)

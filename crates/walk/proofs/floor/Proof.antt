@@ -17,15 +17,6 @@ abbrev μ-loop : tie.MeasureT-loop
 loop-holds : tie.Need-loop-holds Inv-loop μ-loop
 loop-holds c = (search needs, most-none _, search needs)
 
-twin-rank-requires : tie.Need-twin-rank-requires Inv-loop μ-loop
-twin-rank-requires c κs = search needs
-
-add-j : tie.Need-add-j Inv-loop μ-loop
-add-j c = search needs
-
-loop-less : tie.Need-loop-less Inv-loop μ-loop
-loop-less c = search needs
-
 loop-again : tie.Need-loop-again Inv-loop μ-loop
 loop-again c =
     let up = most-next _ _ _ _ (c .if1 .most) (c .before .before .before .loop .inv .1) (c .before .twin-rank .ensures .0) in
@@ -37,4 +28,5 @@ returns c = floor-is _ _ _ _ (c .before .loop .j) _ (omega arith) (c .before .lo
 pub floor-spec : {M : Type 1} → statement M
 floor-spec =
     tie.close
-    (tie.spec Inv-loop μ-loop loop-holds twin-rank-requires add-j loop-less loop-again returns)
+    (tie.spec
+    Inv-loop μ-loop loop-holds (λ c κs. search needs) (λ c. search needs) (λ c. search needs) loop-again returns)

@@ -7,25 +7,10 @@ use Rattle.walk.proofs.put.Lts as lts
 use Rattle.walk.proofs.less.Reads as less-reads
 
 -- src/lib.rt:171:15
-mul-had : tie.Need-mul-had
-mul-had c = search needs
-
 -- src/lib.rt:171:15
-element-copy-out-had : tie.Need-element-copy-out-had
-element-copy-out-had c = search needs
-
 -- src/lib.rt:172:21
-less-requires : tie.Need-less-requires
-less-requires c κs = search needs
-
 -- src/lib.rt:172:5
-mul-left : tie.Need-mul-left
-mul-left c = search needs
-
 -- src/lib.rt:172:5
-element-write-left : tie.Need-element-write-left
-element-write-left c = search needs
-
 -- src/lib.rt:167:1
 returns : tie.Need-returns
 returns c = (search needs, put-off (c .before .before .args .left .now) (c .before .before .args .counter) _ _ (c .less .ensures))
@@ -33,4 +18,5 @@ returns c = (search needs, put-off (c .before .before .args .left .now) (c .befo
 pub put-spec : {M : Type 1} → statement M
 put-spec =
     tie.close
-    (tie.spec mul-had element-copy-out-had less-requires mul-left element-write-left returns)
+    (tie.spec
+    (λ c. search needs) (λ c. search needs) (λ c κs. search needs) (λ c. search needs) (λ c. search needs) returns)

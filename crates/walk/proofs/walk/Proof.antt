@@ -4,9 +4,6 @@ use Rattle.walk.proofs.walk.Statement.{statement}
 use Rattle.walk.proofs.walk.Tie as tie
 
 -- src/lib.rt:263:9
-enter-requires : tie.Need-enter-requires
-enter-requires c κs = search needs
-
 -- src/lib.rt:264:5
 cell-requires : tie.Need-cell-requires
 cell-requires c κs = stands-start _ _ (c .before .before .before .before .pre .0) (c .before .before .before .before .pre .1) (c .before .before .enter .ensures)
@@ -16,4 +13,4 @@ returns : tie.Need-returns
 returns c = ran-same (c .before .before .before .enter .ensures) (c .cell .ensures)
 
 pub walk-spec : {M : Type 1} → statement M
-walk-spec = tie.close (tie.spec enter-requires cell-requires returns)
+walk-spec = tie.close (tie.spec (λ c κs. search needs) cell-requires returns)
