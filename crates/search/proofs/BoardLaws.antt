@@ -16,7 +16,7 @@ use Rattle.laws.specs.Sum.{gate, sum}
 use Rattle.laws.specs.Tests.{all}
 use Rattle.laws.specs.Lists.{nth, filled}
 use Rattle.laws.proofs.TestLaws.{all-same, all-at}
-use Rattle.laws.proofs.ListLaws.{filled-length, filled-at, filled-before, filled-behind}
+use Rattle.laws.proofs.ListLaws.{seek-before, filled-length, filled-at, filled-before, filled-behind}
 use Rattle.tasks.specs.declared.Task.{Task}
 use Rattle.tasks.specs.declared.TaskList.{TaskList}
 use Rattle.tasks.specs.Task.{task, rate, taskAt, rows}
@@ -175,16 +175,11 @@ module _ (list : TaskList) (m e L : ℕ) (few : L ≤ 1024) where
   unfolding unmarked unmarkedOf sized twinned evened rated grid
   at-fits x l = below-ends (16483 + x) (omega arith) ∙ filled-at sized 16483 256 (fitMark (list .rates)) x l (rw sized-length (omega arith))
 
-  -- where the mark is 0, no entry of the slot is odd
-  at-ends : (t v : ℕ) → t < L → v < list .n → list .n ≤ 16 → nth board (16739 + t) ≡ 0 → nth board (t * 16 + v) % 2 ≡ 0
-  unfolding board boardOf unmarked endMark gate
-  at-ends t v lt lv ln z = ap (λ x. x % 2) (below-ends (t * 16 + v) (omega arith))
-      ∙ eqb→eq _ 0 (all-at (list .n) _ (unmarked-slot (all (list .n) (λ v. eqb (nth unmarked (t * 16 + v) % 2) 0))
-      (sym (filled-at unmarked 16739 L (endMark unmarked (list .n)) t lt (rw unmarked-length (omega arith))) ∙ z)) v lv)
-    where
-      unmarked-slot : (b : Bool) → gate (not b) 1 ≡ 0 → T b
-      unmarked-slot true h = tt
-      unmarked-slot false h = absurd (omega arith)
+  -- before the mark no entry of the slot is odd
+  at-ends : (t v : ℕ) → t < L → v < list .n → list .n ≤ 16 → v < nth board (16739 + t) → nth board (t * 16 + v) % 2 ≡ 0
+  unfolding board boardOf unmarked endMark
+  at-ends t v lt lv ln before = ap (λ x. x % 2) (below-ends (t * 16 + v) (omega arith))
+      ∙ seek-before (list .n) (λ v. nth unmarked (t * 16 + v) % 2) v (omega (arith, filled-at unmarked 16739 L (endMark unmarked (list .n)) t lt (rw unmarked-length (omega arith))))
 
 -- ---- the list's rates
 -- the rate on a core, in the flat list

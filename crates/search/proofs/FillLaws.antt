@@ -3,7 +3,7 @@
 use Prim.Native.Nat.{ℕ, zero, suc, _+_, _*_, _/_, _%_, _≤_, _<_}
 use mathlib.Core.Path.{_≡_, refl, sym, ap, _∙_}
 use mathlib.Core.Logic.{_≢_}
-use mathlib.Core.Bool.{Bool, true, false, not, _&&_}
+use mathlib.Core.Bool.{Bool, true, false, _&&_}
 use mathlib.Core.List.{List}
 use native.Mathlib.Omega.{arith}
 use native.Mathlib.Nat.{zero-add, mul-le-mul-left}
@@ -13,8 +13,8 @@ use borrow.Author.Tests.{lt-ltb, le-ltb, eq-eqb, ne-eqb}
 use Rattle.laws.specs.Sum.{gate}
 use Rattle.laws.specs.Tests.{all}
 use Rattle.laws.specs.Lists.{nth, filled}
-use Rattle.laws.proofs.TestLaws.{all-false, all-true, all-same}
-use Rattle.laws.proofs.ListLaws.{filled-before, filled-next}
+use Rattle.laws.proofs.TestLaws.{all-false, all-true}
+use Rattle.laws.proofs.ListLaws.{seek-is, seek-none, seek-same, filled-before, filled-next}
 use Rattle.tasks.specs.declared.Task.{Task}
 use Rattle.tasks.specs.declared.TaskList.{TaskList}
 use Rattle.tasks.specs.declared.Window.{Window}
@@ -165,20 +165,20 @@ board-filled list m e L s grid rates evens twins fits ends eg er ee et ef en = r
 
 -- ---- the slots in which jobs end
 module _ (board : List ℕ) (n t : ℕ) where
-  -- one does
-  pub one-ends : (v : ℕ) → v < n → nth board (t * 16 + v) % 2 ≢ 0 → 1 ≡ endMark board n t
-  unfolding endMark gate
-  one-ends v l x = rw (all-false n (λ v. eqb (nth board (t * 16 + v) % 2) 0) v l (ne-eqb _ 0 x))
+  -- v is the first
+  pub first-ends : (v : ℕ) → v < n → ((k : ℕ) → k < v → nth board (t * 16 + k) % 2 ≡ 0) → nth board (t * 16 + v) % 2 ≢ 0 → v ≡ endMark board n t
+  unfolding endMark
+  first-ends v l none x = sym (seek-is n v _ l none x)
 
   -- none does
-  pub none-ends : ((v : ℕ) → v < n → nth board (t * 16 + v) % 2 ≡ 0) → 0 ≡ endMark board n t
-  unfolding endMark gate
-  none-ends h = rw (all-true n (λ v. eqb (nth board (t * 16 + v) % 2) 0) (λ v l. eq-eqb _ 0 (h v l)))
+  pub none-ends : ((v : ℕ) → v < n → nth board (t * 16 + v) % 2 ≡ 0) → n ≡ endMark board n t
+  unfolding endMark
+  none-ends none = sym (seek-none n _ none)
 
 -- the marks filled in before change none
 pub ends-same : (board now : List ℕ) (n k t r : ℕ) → n ≤ 16 → t < 1024 → now ≡ filled board 16739 k (endMark board n) → r ≡ endMark now n t → r ≡ endMark board n t
 unfolding endMark
-ends-same board now n k t r ln lt e h = h ∙ ap (λ b. gate (not b) 1) (all-same n _ _ (λ v l. ap (λ x. eqb (x % 2) 0) (ap (λ b. nth b (t * 16 + v)) e ∙ filled-before board 16739 k (endMark board n) (t * 16 + v) (omega arith))))
+ends-same board now n k t r ln lt e h = h ∙ seek-same n _ _ (λ v l. ap (λ x. x % 2) (ap (λ b. nth b (t * 16 + v)) e ∙ filled-before board 16739 k (endMark board n) (t * 16 + v) (omega arith)))
 
 -- what a sound list has for the board
 pub sound-fits : (list : TaskList) (m L : ℕ) → IsSound m (rows list) → L ≡ tableLength (rows list)

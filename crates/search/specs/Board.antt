@@ -1,13 +1,13 @@
 -- What the search puts on the board, and what it tells.
 -- Assumes nothing.
 use Prim.Native.Nat.{ℕ, suc, _+_, _*_, _/_, _%_, _≤_}
-use mathlib.Core.Bool.{Bool, cond, not, _&&_}
+use mathlib.Core.Bool.{Bool, cond, _&&_}
 use mathlib.Core.List.{List}
 use lib.Dec.{leb, ltb, eqb}
 use lib.ListN.{set}
 use Rattle.laws.specs.Sum.{gate}
 use Rattle.laws.specs.Tests.{all, imp}
-use Rattle.laws.specs.Lists.{nth, filled}
+use Rattle.laws.specs.Lists.{nth, seek, filled}
 use Rattle.tasks.specs.declared.Task.{Task}
 use Rattle.tasks.specs.declared.TaskList.{TaskList}
 use Rattle.tasks.specs.Task.{taskAt}
@@ -75,9 +75,9 @@ fitMark rates x =
 abbrev pub workAt : List ℕ → ℕ → ℕ
 workAt work x = nth work (x % 16)
 
--- 1 if a job has its highest-numbered slot in this slot of the grid
+-- the first task whose job has its highest-numbered slot in this slot of the grid, n if there is none
 unfoldable pub endMark : List ℕ → ℕ → ℕ → ℕ
-endMark grid n t = gate (not (all n (λ v. eqb (nth grid (t * 16 + v) % 2) 0))) 1
+endMark grid n t = seek n (λ v. nth grid (t * 16 + v) % 2)
 
 -- the board for a list on m cores in L slots, by engine e, but for the marks of ends
 unfoldable pub unmarkedOf : TaskList → ℕ → ℕ → ℕ → List ℕ → List ℕ

@@ -238,7 +238,7 @@ fn fill_fits(board: &mut [u16; 17763], rates: [u8; 64])
     }
 }
 
-// A 1 if a job has its highest-numbered slot in this slot of the grid.
+// The first task whose job has its highest-numbered slot in this slot of the grid, n if there is none.
 fn end_mark(board: &[u16; 17763], n: usize, slot: usize) -> u16
     requires { ⌜ (n ≤ 16) × (slot < 1024) ⌝ }
     ensures { λ r. ⌜ r ≡ endMark (now (board .entry)) n slot ⌝ }
@@ -246,11 +246,11 @@ fn end_mark(board: &[u16; 17763], n: usize, slot: usize) -> u16
     let mut v: usize = 0;
     while v < n {
         if board[slot * 16 + v] % 2 != 0 {
-            return 1;
+            return v as u16;
         }
         v += 1;
     }
-    0
+    n as u16
 }
 
 // The marks of the slots in which jobs end, by the grid.

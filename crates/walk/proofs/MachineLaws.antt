@@ -8,12 +8,13 @@ use mathlib.Core.Path.{_≡_, refl, sym, ap, ap₂, _∙_}
 use mathlib.Core.Logic.{_≢_}
 use mathlib.Core.Bool.{Bool, true, false, not}
 use mathlib.Core.List.{List}
-use lib.Dec.{eqb}
-use borrow.Author.Tests.{eq-eqb, ne-eqb}
+use lib.Dec.{leb, eqb}
+use borrow.Author.Tests.{leb-true, le-leb, eq-eqb, ne-eqb}
 use lib.ListN.{set}
 use Rattle.laws.specs.Lists.{nth}
 use Rattle.laws.specs.Sum.{gate}
 use Rattle.laws.specs.Order.{rankOf}
+use Rattle.laws.specs.Tests.{imp}
 use Rattle.laws.proofs.TestLaws.{all-false, all-true}
 use Rattle.sets.specs.Sets.{has, pushed}
 use Rattle.sets.proofs.SetLaws.{none-has, pushed-first, pushed-next, pushed-lt}
@@ -36,19 +37,18 @@ unfolding floorOn
 floor-is board t first core j m e h = h ∙ ap (λ n. most n (twinRankOn board t first core)) e
 
 -- ---- a slot that closes
--- no job ends in it
-pub closes-none : (board l : List ℕ) (slot : ℕ) → endsOn board slot ≡ 0 → true ≡ closesOn board l slot
-unfolding closesOn
-closes-none board l slot z = rw (eq-eqb (endsOn board slot) 0 z)
-
-module _ (board l : List ℕ) (slot : ℕ) (some : endsOn board slot ≢ 0) where
-  pub closes-not : (v : ℕ) (r : Bool) → v < tasksOn board → r ≡ settledOn board l slot v → r ≡ false → false ≡ closesOn board l slot
+module _ (board l : List ℕ) (slot : ℕ) where
+  pub closes-not : (v : ℕ) (r : Bool) → v < tasksOn board → endsOn board slot ≤ v → r ≡ settledOn board l slot v → r ≡ false → false ≡ closesOn board l slot
   unfolding closesOn
-  closes-not v r h e f = rw (ne-eqb (endsOn board slot) 0 some) (sym (all-false (tasksOn board) (settledOn board l slot) v h (sym e ∙ f)))
+  closes-not v r h ends e f = sym (all-false (tasksOn board) _ v h (rw (le-leb (endsOn board slot) v ends) (sym e ∙ f)))
 
-  pub closes-yes : (n : ℕ) → n ≡ tasksOn board → ((v : ℕ) → v < n → settledOn board l slot v ≡ true) → true ≡ closesOn board l slot
+  pub closes-yes : (n task : ℕ) → n ≡ tasksOn board → n ≤ task → ((v : ℕ) → v < task → endsOn board slot ≤ v → settledOn board l slot v ≡ true) → true ≡ closesOn board l slot
   unfolding closesOn
-  closes-yes n e h = rw (ne-eqb (endsOn board slot) 0 some) (sym (all-true (tasksOn board) (settledOn board l slot) (λ v i. h v (rw e i))))
+  closes-yes n task e h passed = sym (all-true (tasksOn board) _ (λ v i. from (leb (endsOn board slot) v) refl (λ le. passed v (omega arith) le)))
+    where
+      from : {v : ℕ} (b : Bool) → leb (endsOn board slot) v ≡ b → (endsOn board slot ≤ v → settledOn board l slot v ≡ true) → imp b (settledOn board l slot v) ≡ true
+      from true e h = h (leb-true _ _ e)
+      from false e h = refl
 
 -- ---- one job at the slot's end
 module _ (board l : List ℕ) (slot v : ℕ) where

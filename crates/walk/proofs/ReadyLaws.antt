@@ -13,7 +13,7 @@ use lib.Arith.{digits-div, digits-mod}
 use lib.Dec.{T, leb, ltb, eqb, leb→le, le→leb, ltb→lt, lt→ltb, eqb→eq, T-not}
 use lib.ListN.{length, set}
 use lib.Seq.{getD-set-same, getD-set-other}
-use borrow.Author.Tests.{le-leb, eq-eqb, ne-eqb}
+use borrow.Author.Tests.{leb-false, le-leb, eq-eqb, ne-eqb}
 use Rattle.laws.specs.Sum.{gate, sum}
 use Rattle.laws.specs.Tests.{every, all, imp}
 use Rattle.laws.specs.Lists.{nth}
@@ -159,12 +159,12 @@ module _ {P : Instance} {e : ℕ} {board : List ℕ} (small : Small P) (ready : 
   -- after the last core of a slot
   pub closes-is : {slot : ℕ} → slot < P .slots → (c : ℕ) (f : ℕ → ℕ) (l : List ℕ) → Lefts P c f l → c ≡ suc slot * P .cores → closesOn board l slot ≡ closed P c f
   unfolding closesOn closed settledOn
-  closes-is {slot} ls c f l lefts ec = ends-only (endsOn board slot) refl ∙ rw (ready .tasks) (all-same (P .tasks) _ _ (λ v lv. settled-is ls lv c f l lefts ec))
+  closes-is {slot} ls c f l lefts ec = rw (ready .tasks) (all-same (P .tasks) _ _ (λ v lv. from-mark v lv (leb (endsOn board slot) v) refl ∙ settled-is ls lv c f l lefts ec))
     where
-      -- where no job ends, each is settled
-      ends-only : (x : ℕ) → endsOn board slot ≡ x → imp (not (eqb (endsOn board slot) 0)) (all (tasksOn board) (settledOn board l slot)) ≡ all (tasksOn board) (settledOn board l slot)
-      ends-only zero z = rw (eq-eqb (endsOn board slot) 0 z) (sym (all-true (tasksOn board) _ (λ v lv. rw (eq-eqb (entryOn board slot v % 2) 0 (ready .ends slot v ls (rw (ready .tasks) at lv) z)))))
-      ends-only (suc x) z = rw (ne-eqb (endsOn board slot) 0 (λ q. omega arith))
+      -- before the mark each job is settled
+      from-mark : (v : ℕ) → v < P .tasks → (b : Bool) → leb (endsOn board slot) v ≡ b → imp b (settledOn board l slot v) ≡ settledOn board l slot v
+      from-mark v lv true e = refl
+      from-mark v lv false e = sym (rw (eq-eqb (entryOn board slot v % 2) 0 (ready .ends slot v ls lv (leb-false _ _ e))))
 
   -- within a slot no job ends
   pub closed-within : (slot core : ℕ) → 0 < core → core < P .cores → (f : ℕ → ℕ) → closed P (slot * P .cores + core) f ≡ true

@@ -78,13 +78,13 @@ floorOn board t first core = most core (twinRankOn board t first core)
 unfoldable pub settledOn : List ℕ → List ℕ → ℕ → ℕ → Bool
 settledOn board l slot v = imp (not (eqb (entryOn board slot v % 2) 0)) (eqb (nth l (counterOn board slot v)) 0)
 
--- 0 if no job has its highest-numbered slot here
+-- no task before this one has a job whose highest-numbered slot this is
 abbrev pub endsOn : List ℕ → ℕ → ℕ
 endsOn board slot = nth board (16739 + slot)
 
 -- each job whose highest-numbered slot this is has no work left
 unfoldable pub closesOn : List ℕ → List ℕ → ℕ → Bool
-closesOn board l slot = imp (not (eqb (endsOn board slot) 0)) (all (tasksOn board) (settledOn board l slot))
+closesOn board l slot = all (tasksOn board) (λ v. imp (leb (endsOn board slot) v) (settledOn board l slot v))
 
 -- how a walk ends
 pub data End : Type 0 where

@@ -46,7 +46,7 @@ pub record Ready (P : Instance) (e : ℕ) (board : List ℕ) : Type 0 where
   pub cores : coresOn board ≡ P .cores
   pub tasks : tasksOn board ≡ P .tasks
   pub entries : (t v : ℕ) → t < P .slots → v < P .tasks → entryOn board t v ≡ entryOf P (suc v) t
-  pub ends : (t v : ℕ) → t < P .slots → v < P .tasks → endsOn board t ≡ 0 → entryOn board t v % 2 ≡ 0
+  pub ends : (t v : ℕ) → t < P .slots → v < P .tasks → v < endsOn board t → entryOn board t v % 2 ≡ 0
   pub rates : (v j : ℕ) → v < P .tasks → j < P .cores → rateOn board v j ≡ P .rate (suc v) j
   pub fits : (v j w : ℕ) → v < P .tasks → j < P .cores → has (fitOn board v w) 0 j ≡ ltb 0 (P .rate (suc v) j) && leb (P .rate (suc v) j) w
   pub evens : (v : ℕ) → v < P .tasks → evenOn board v ≡ gate (isQuick e && evenRates P (suc v)) 1

@@ -4,7 +4,7 @@
 // task's job there, one more in the job's highest-numbered slot; then the rates, four a task; for rule A a 1 for each task
 // whose positive rates are equal; for rule B, four a core, a 1 for each earlier twin; the task count, the cores, the slots;
 // for each task, by the work left up to 15, the cores on which its rate is positive and within it, as bits; and for each
-// slot a 0 if no job has its highest-numbered slot there.
+// slot the first task whose job has its highest-numbered slot there, the task count if there is none.
 // `left` has the work left of each job at its counter, and 0 at the counter of closed slots.
 // `sets` has the tasks that may still stand in the slot, for each core: worked out once a slot.
 // A call takes six arguments at most, since a seventh would pass through memory: slot and core are one place, and the tries
@@ -149,11 +149,8 @@ fn closes(board: &[u16; 17763], left: &[u16; 32768], slot: usize) -> bool
     requires { ⌜ (slot < 1024) × (tasksOn (now board) ≤ 16) ⌝ }
     ensures { λ r. ⌜ r ≡ closesOn (now (board .entry)) (now (left .entry)) slot ⌝ }
 {
-    if board[ENDS + slot] == 0 {
-        return true;
-    }
     let n = wide(board[TASKS]);
-    let mut task: usize = 0;
+    let mut task = wide(board[ENDS + slot]);
     while task < n {
         if !settled(board, left, slot, task) {
             return false;

@@ -6,7 +6,7 @@ use borrow.Author.Needs.{needs}
 use borrow.Author.Count.{below-none, below-more}
 use native.Mathlib.Omega.{arith}
 use Rattle.laws.specs.Lists.{nth}
-use Rattle.search.proofs.FillLaws.{one-ends, none-ends}
+use Rattle.search.proofs.FillLaws.{first-ends, none-ends}
 use Rattle.search.proofs.end_mark.Statement.{statement}
 use Rattle.search.proofs.end_mark.Tie as tie
 
@@ -20,7 +20,7 @@ loop-holds : tie.Need-loop-holds Inv-loop μ-loop
 loop-holds c = (search needs, below-none _)
 
 returns : tie.Need-returns Inv-loop μ-loop
-returns c = one-ends _ _ _ _ (c .before .before .loop-test .taken) (c .if1 .taken)
+returns c = first-ends _ _ _ _ (c .before .before .loop-test .taken) (c .before .before .before .loop .inv .1) (c .if1 .taken)
 
 loop-again : tie.Need-loop-again Inv-loop μ-loop
 loop-again c = (search needs, below-more _ _ (c .before .before .before .loop .inv .1) (c .if1 .left))
@@ -32,5 +32,5 @@ pub end-mark-spec : {M : Type 1} → statement M
 end-mark-spec =
     tie.close
     (tie.spec
-    Inv-loop μ-loop loop-holds (λ c. search needs) (λ c. search needs) (λ c. search needs) (λ c. search needs) returns
-    (λ c. search needs) (λ c. search needs) loop-again returns-2)
+    Inv-loop μ-loop loop-holds (λ c. search needs) (λ c. search needs) (λ c. search needs) (λ c. search needs) (λ c. search needs)
+    returns (λ c. search needs) (λ c. search needs) loop-again (λ c. search needs) returns-2)
