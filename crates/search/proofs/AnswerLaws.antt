@@ -20,7 +20,8 @@ use Rattle.tasks.proofs.SoundLaws.{sound-list, soundness-sound, soundness-refus
 use Rattle.tasks.proofs.AnswerLaws.{or-first, or-next}
 use Rattle.rules.specs.Search.{Searched, toldUnless, searchRefusal, search}
 use Rattle.rules.proofs.Told.{search-told}
-use Rattle.walk.specs.Machine.{Fits, coresOn}
+use Rattle.board.specs.Board.{coresOn}
+use Rattle.walk.specs.Machine.{Fits}
 use Rattle.search.specs.declared.Answer.{Answer}
 use Rattle.search.specs.Board.{boardOf, refusedBy, walkTold, toldOf}
 use Rattle.search.proofs.BoardLaws.{board-fits, board-cores}

@@ -29,8 +29,9 @@ use Rattle.table.specs.Table.{done}
 use Rattle.rules.specs.Rules.{evenRates, twin}
 use Rattle.rules.specs.Right.{ownInstance}
 use Rattle.sets.specs.Sets.{has}
-use Rattle.walk.specs.Machine.{tasksOn, coresOn, slotsOn, Fits}
-use Rattle.walk.specs.Ready.{Small, counterOf, entryOf, isQuick, Ready, Lefts}
+use Rattle.board.specs.Board.{tasksOn, coresOn, slotsOn}
+use Rattle.walk.specs.Machine.{Fits}
+use Rattle.board.specs.Ready.{Small, counterOf, entryOf, isQuick, Ready, Lefts}
 use Rattle.search.specs.Board.{Fit, entryFor, gridEntry, evenPair, evenWith, rowEven, evenMark, coresTwin, twinMark, fitMark, endMark, workAt, unmarkedOf, boardOf}
 use Rattle.search.proofs.FitLaws.{mark-has, up-to-15}
 

@@ -24,7 +24,7 @@ use Rattle.tasks.specs.Refusal.{IsSound, tableLength}
 use Rattle.tasks.specs.Window.{isOpen, jobAt, lastSlot, openIf, windowAt}
 use Rattle.tasks.proofs.WindowLaws.{pos-T, job-lt}
 use Rattle.tasks.proofs.SoundLaws.{rows-length, rows-task, SoundList, sound-list, length-whole, sound-cyclic}
-use Rattle.walk.specs.Ready.{isQuick}
+use Rattle.board.specs.Ready.{isQuick}
 use Rattle.search.specs.Board.{Fit, entryFor, gridEntry, evenPair, rowEven, evenMark, twinMark, fitMark, endMark, unmarkedOf, boardOf}
 
 -- ---- places stored one after the other

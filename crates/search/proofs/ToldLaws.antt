@@ -22,8 +22,9 @@ use Rattle.rules.specs.Walk as walks
 use Rattle.rules.specs.Walk.{Result, tries, spend, ended, cap, limited}
 use Rattle.rules.specs.Right.{ownInstance}
 use Rattle.rules.specs.Search.{walked, told}
-use Rattle.walk.specs.Machine.{End, Found, Nothing, Stopped, packed, State, coresOn, setsOn, walkOn, firstOn, cellsLeft, full, Leaves, Ran}
-use Rattle.walk.specs.Ready.{Ready, Lefts}
+use Rattle.board.specs.Board.{coresOn, setsOn}
+use Rattle.walk.specs.Machine.{End, Found, Nothing, Stopped, packed, State, walkOn, firstOn, cellsLeft, full, Leaves, Ran}
+use Rattle.board.specs.Ready.{Ready, Lefts}
 use Rattle.walk.proofs.TurnLaws.{packed-nothing, packed-found, packed-stopped}
 use Rattle.walk.proofs.RefineLaws.{toldAt, Shows, shows-same, walk-limited}
 use Rattle.search.specs.declared.Answer.{Answer}

@@ -16,7 +16,7 @@ use Rattle.table.specs.Table.{cells}
 use Rattle.rules.specs.Walk.{limited}
 use Rattle.rules.specs.Right.{ownInstance}
 use Rattle.rules.specs.Search.{Searched, walked, told}
-use Rattle.walk.specs.Ready.{counterOf, closedCounter, isQuick}
+use Rattle.board.specs.Ready.{counterOf, closedCounter, isQuick}
 use Rattle.search.specs.declared.Answer.{Answer}
 
 -- a task whose windows fit a table of L slots

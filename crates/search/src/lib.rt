@@ -8,20 +8,20 @@ ghost use Rattle.tasks.specs.Task.{taskAt, rows};
 ghost use Rattle.tasks.specs.Refusal.{IsSound, tableLength};
 ghost use Rattle.rules.specs.Search.{search as searchOf};
 ghost use Rattle.search.specs.Board.{Fit, entryFor, gridEntry, rowEven, evenPair, evenWith, evenMark, coresTwin, twinMark, fitBit, fitMark, endMark, workAt, boardOf, walkTold, refusedBy, toldOf};
+use board::CORES;
+use board::ENDS;
+use board::EVEN;
+use board::FITS;
+use board::RATES;
+use board::SLOTS;
+use board::TASKS;
+use board::TWINS;
 use tasks::Rates;
 use tasks::Slots;
 use tasks::Soundness;
 use tasks::Task;
 use tasks::TaskList;
 use tasks::Window;
-use walk::CORES;
-use walk::ENDS;
-use walk::EVEN;
-use walk::FITS;
-use walk::RATES;
-use walk::SLOTS;
-use walk::TASKS;
-use walk::TWINS;
 
 // Twice the counter of closed slots.
 const CLOSED: u16 = 32768;

@@ -5,7 +5,8 @@ use mathlib.Core.Path.{_≡_, refl}
 use mathlib.Core.List.{List}
 use denote.Ref.{now}
 use Rattle.laws.proofs.Only.{Says, only}
-use Rattle.walk.specs.Machine.{setsOn, Ran}
+use Rattle.board.specs.Board.{setsOn}
+use Rattle.walk.specs.Machine.{Ran}
 use Rattle.walk.proofs.walk as walk
 
 -- ---- walk

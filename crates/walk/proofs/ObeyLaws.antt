@@ -22,9 +22,9 @@ use Rattle.rules.specs.Search.{ruleOf}
 use Rattle.rules.proofs.Plain.{prefix-permitted, prefix-closed}
 use Rattle.rules.proofs.Quick.{prefix-quickly}
 use Rattle.sets.specs.Sets.{has}
-use Rattle.walk.specs.Machine.{most, evenOn, tasksOn, twinRankOn, floorOn}
-use Rattle.walk.specs.Ready.{Small, Ready}
-use Rattle.walk.proofs.ReadyLaws.{test-same, Sets, core-is, beside-at, permitted-is}
+use Rattle.board.specs.Board.{most, evenOn, tasksOn, twinRankOn, floorOn}
+use Rattle.board.specs.Ready.{Small, Ready}
+use Rattle.board.proofs.ReadyLaws.{test-same, Sets, core-is, beside-at, permitted-is}
 
 -- ---- numbers and tests
 -- the largest is at most x exactly if each is

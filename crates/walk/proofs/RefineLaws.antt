@@ -27,10 +27,11 @@ use Rattle.rules.specs.Rules.{values, settled, closed}
 use Rattle.rules.specs.Search.{ruleOf, walked}
 use Rattle.rules.proofs.Limit.{bwalk-from}
 use Rattle.sets.specs.Sets.{has, without}
-use Rattle.walk.specs.Machine.{End, Found, Nothing, Stopped, State, state, Onward, counterOn, rateOn, evenOn, coresOn, slotsOn, setsOn, floorOn, closesOn, idleLast, placed, tryFrom, closeThen, walkOn}
-use Rattle.walk.specs.Ready.{Small, Ready, Lefts}
+use Rattle.board.specs.Board.{counterOn, rateOn, evenOn, coresOn, slotsOn, setsOn, floorOn, closesOn}
+use Rattle.walk.specs.Machine.{End, Found, Nothing, Stopped, State, state, Onward, idleLast, placed, tryFrom, closeThen, walkOn}
+use Rattle.board.specs.Ready.{Small, Ready, Lefts}
 use Rattle.walk.proofs.TurnLaws.{or-else-stays, skip, barred-by-B, stop, tried, back}
-use Rattle.walk.proofs.ReadyLaws.{Sets, sets-same, closes-is, closed-within, open-tells, lefts-idle, lefts-put, sets-idle, sets-put, sets-start}
+use Rattle.board.proofs.ReadyLaws.{Sets, sets-same, closes-is, closed-within, open-tells, lefts-idle, lefts-put, sets-idle, sets-put, sets-start}
 use Rattle.walk.proofs.ObeyLaws.{cost-one, closes-prefix, task-tried, idle-tried}
 
 -- what an end tells from cell c on, of n cells

@@ -17,14 +17,14 @@ use Rattle.walk.proofs.+cell+close_slot.Lts-close_slot as close-slot-lt
 use Rattle.sets.proofs.lowest.Reads as lowest-reads
 use Rattle.sets.proofs.of_core.Reads as of-core-reads
 use Rattle.sets.proofs.without.Reads as without-reads
-use Rattle.walk.proofs.closes.Reads as closes-reads
-use Rattle.walk.proofs.counter.Reads as counter-reads
-use Rattle.walk.proofs.enter.Reads as enter-reads
-use Rattle.walk.proofs.floor.Reads as floor-reads
+use Rattle.board.proofs.closes.Reads as closes-reads
+use Rattle.board.proofs.counter.Reads as counter-reads
+use Rattle.board.proofs.enter.Reads as enter-reads
+use Rattle.board.proofs.floor.Reads as floor-reads
 use Rattle.walk.proofs.put.Reads as put-reads
-use Rattle.walk.proofs.rate.Reads as rate-reads
+use Rattle.board.proofs.rate.Reads as rate-reads
 use Rattle.walk.proofs.take_back.Reads as take-back-reads
-use Rattle.walk.proofs.wide.Reads as wide-reads
+use Rattle.board.proofs.wide.Reads as wide-reads
 use Rattle.walk.proofs.+cell+close_slot.{statement}
 use Rattle.walk.proofs.+cell+close_slot.Tie.{close}
 

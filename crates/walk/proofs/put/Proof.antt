@@ -1,19 +1,13 @@
-use Rattle.walk.proofs.MachineLaws.{put-off}
+-- `walk::put` meets its contract.
+-- Assumes nothing.
+use mathlib.Core.Path.{ap}
+use lib.ListN.{set}
 use borrow.Author.Needs.{needs}
 use Rattle.walk.proofs.put.Statement.{statement}
 use Rattle.walk.proofs.put.Tie as tie
-use Rattle.walk.proofs.put.Reads as reads
-use Rattle.walk.proofs.put.Lts as lts
-use Rattle.walk.proofs.less.Reads as less-reads
 
--- src/lib.rt:171:15
--- src/lib.rt:171:15
--- src/lib.rt:172:21
--- src/lib.rt:172:5
--- src/lib.rt:172:5
--- src/lib.rt:167:1
 returns : tie.Need-returns
-returns c = (search needs, put-off (c .before .before .args .left .now) (c .before .before .args .counter) _ _ (c .less .ensures))
+returns c = (search needs, ap (set (c .before .before .args .left .now) (c .before .before .args .counter)) (c .less .ensures))
 
 pub put-spec : {M : Type 1} → statement M
 put-spec =

@@ -3,12 +3,9 @@ use Rattle.walk.proofs.TurnLaws.{stands-start, ran-same}
 use Rattle.walk.proofs.walk.Statement.{statement}
 use Rattle.walk.proofs.walk.Tie as tie
 
--- src/lib.rt:263:9
--- src/lib.rt:264:5
 cell-requires : tie.Need-cell-requires
 cell-requires c κs = stands-start _ _ (c .before .before .before .before .pre .0) (c .before .before .before .before .pre .1) (c .before .before .enter .ensures)
 
--- src/lib.rt:259:1
 returns : tie.Need-returns
 returns c = ran-same (c .before .before .before .enter .ensures) (c .cell .ensures)
 

@@ -2,10 +2,10 @@ use Prim.Native.Nat.{_-_, _≤_}
 use mathlib.Core.Path.{_≡_, _∙_}
 use native.Mathlib.Omega.{arith}
 use borrow.Author.Needs.{needs}
-use Rattle.walk.specs.Machine.{tasksOn, setsFrom}
-use Rattle.walk.proofs.MachineLaws.{sets-none-yet, sets-more, sets-all, sets-room}
-use Rattle.walk.proofs.enter.Statement.{statement}
-use Rattle.walk.proofs.enter.Tie as tie
+use Rattle.board.specs.Board.{tasksOn, setsFrom}
+use Rattle.board.proofs.ReadLaws.{sets-none-yet, sets-more, sets-all, sets-room}
+use Rattle.board.proofs.enter.Statement.{statement}
+use Rattle.board.proofs.enter.Tie as tie
 
 abbrev Inv-loop : tie.InvT-loop
 Inv-loop board left slot task₀ sets₀ task sets = (task ≤ tasksOn board) × (sets ≡ setsFrom board left slot (tasksOn board - task) task)

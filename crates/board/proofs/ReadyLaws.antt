@@ -26,9 +26,9 @@ use Rattle.table.proofs.ShareLaws.{share-none, share-own}
 use Rattle.rules.specs.Rules.{tests, permitted, settled, closed}
 use Rattle.sets.specs.Sets.{has, without}
 use Rattle.sets.proofs.SetLaws.{without-has}
-use Rattle.walk.specs.Machine.{entryOn, endsOn, rateOn, tasksOn, counterOn, fitOn, setsOn, settledOn, closesOn}
-use Rattle.walk.specs.Ready.{Small, counterOf, closedCounter, entryOf, Ready, Lefts}
-use Rattle.walk.proofs.MachineLaws.{sets-has}
+use Rattle.board.specs.Board.{entryOn, endsOn, rateOn, tasksOn, counterOn, fitOn, setsOn, settledOn, closesOn}
+use Rattle.board.specs.Ready.{Small, counterOf, closedCounter, entryOf, Ready, Lefts}
+use Rattle.board.proofs.ReadLaws.{sets-has}
 
 -- two tests that pass together are the same
 pub test-same : (a b : Bool) → (T a → T b) → (T b → T a) → a ≡ b

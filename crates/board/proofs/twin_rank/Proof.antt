@@ -1,7 +1,7 @@
-use Rattle.walk.proofs.MachineLaws.{twin-none, twin-idle, twin-task}
+use Rattle.board.proofs.ReadLaws.{twin-none, twin-idle, twin-task}
 use borrow.Author.Needs.{needs}
-use Rattle.walk.proofs.twin_rank.Statement.{statement}
-use Rattle.walk.proofs.twin_rank.Tie as tie
+use Rattle.board.proofs.twin_rank.Statement.{statement}
+use Rattle.board.proofs.twin_rank.Tie as tie
 
 returns : tie.Need-returns
 returns c = (twin-none _ _ _ _ _ (c .if1 .taken), search needs)

@@ -1,4 +1,4 @@
--- `walk::closes` meets its contract. The loop's invariant: each job passed, from the mark on, is settled.
+-- `board::closes` meets its contract. The loop's invariant: each job passed, from the mark on, is settled.
 -- Assumes nothing.
 use borrow.Author.Tests.{not-true, not-false}
 use borrow.Author.Count.{below-more}
@@ -7,10 +7,10 @@ use native.Mathlib.Omega.{arith}
 use Prim.Native.Nat.{ℕ, _-_, _≤_, _<_}
 use mathlib.Core.Path.{_≡_, sym, _∙_}
 use mathlib.Core.Bool.{true}
-use Rattle.walk.specs.Machine.{tasksOn, endsOn, settledOn}
-use Rattle.walk.proofs.MachineLaws.{closes-not, closes-yes}
-use Rattle.walk.proofs.closes.Statement.{statement}
-use Rattle.walk.proofs.closes.Tie as tie
+use Rattle.board.specs.Board.{tasksOn, endsOn, settledOn}
+use Rattle.board.proofs.ReadLaws.{closes-not, closes-yes}
+use Rattle.board.proofs.closes.Statement.{statement}
+use Rattle.board.proofs.closes.Tie as tie
 
 abbrev Inv-loop : tie.InvT-loop
 Inv-loop board left slot n task₀ task = (n ≡ tasksOn board) × (endsOn board slot ≤ task) × ((v : ℕ) → v < task → endsOn board slot ≤ v → settledOn board left slot v ≡ true)

@@ -12,7 +12,7 @@ use Rattle.tasks.specs.Instance.{Instance, jobSlot, jobEnd, Regular}
 use Rattle.table.specs.Table.{workLeft}
 use Rattle.rules.specs.Rules.{evenRates, twin}
 use Rattle.sets.specs.Sets.{has}
-use Rattle.walk.specs.Machine.{entryOn, endsOn, rateOn, fitOn, evenOn, twinOn, tasksOn, coresOn, slotsOn}
+use Rattle.board.specs.Board.{entryOn, endsOn, rateOn, fitOn, evenOn, twinOn, tasksOn, coresOn, slotsOn}
 
 -- an instance that the arrays can hold, each of whose jobs has a slot
 pub record Small (P : Instance) : Type 0 where

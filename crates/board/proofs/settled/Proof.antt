@@ -1,7 +1,7 @@
-use Rattle.walk.proofs.MachineLaws.{settled-open, settled-end}
+use Rattle.board.proofs.ReadLaws.{settled-open, settled-end}
 use borrow.Author.Needs.{needs}
-use Rattle.walk.proofs.settled.Statement.{statement}
-use Rattle.walk.proofs.settled.Tie as tie
+use Rattle.board.proofs.settled.Statement.{statement}
+use Rattle.board.proofs.settled.Tie as tie
 
 returns : tie.Need-returns
 returns c = settled-open _ _ _ _ (c .if1 .taken)

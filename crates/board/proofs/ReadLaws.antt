@@ -18,7 +18,7 @@ use Rattle.laws.specs.Tests.{imp}
 use Rattle.laws.proofs.TestLaws.{all-false, all-true}
 use Rattle.sets.specs.Sets.{has, pushed}
 use Rattle.sets.proofs.SetLaws.{none-has, pushed-first, pushed-next, pushed-lt}
-use Rattle.walk.specs.Machine.{most, entryOn, endsOn, twinOn, tasksOn, counterOn, fitOn, setsFrom, setsOn, twinRankOn, floorOn, settledOn, closesOn}
+use Rattle.board.specs.Board.{most, entryOn, endsOn, twinOn, tasksOn, counterOn, fitOn, setsFrom, setsOn, twinRankOn, floorOn, settledOn, closesOn}
 
 -- ---- the highest rank
 -- one core more
@@ -82,11 +82,6 @@ module _ (board t : List ℕ) (first core j : ℕ) where
       rank-same : (y : ℕ) → y ≢ 0 → y ≡ rankOf (tasksOn board) y
       rank-same zero h = absurd (h refl)
       rank-same (suc y) h = refl
-
--- ---- the work left
--- a rate taken off
-pub put-off : (l : List ℕ) (k rate r : ℕ) → r ≡ nth l k - rate → set l k r ≡ set l k (nth l k - rate)
-put-off l k rate r e = ap (set l k) e
 
 -- ---- the sets of a slot
 -- the cores that a task fits

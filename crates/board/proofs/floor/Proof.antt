@@ -2,11 +2,11 @@ use Prim.Native.Nat.{_-_, _≤_}
 use mathlib.Core.Path.{_≡_}
 use native.Mathlib.Omega.{arith}
 use mathlib.Core.Logic.{⊎-elim}
-use Rattle.walk.specs.Machine.{most as mostOf, twinRankOn}
-use Rattle.walk.proofs.MachineLaws.{most-none, most-next, floor-is}
+use Rattle.board.specs.Board.{most as mostOf, twinRankOn}
+use Rattle.board.proofs.ReadLaws.{most-none, most-next, floor-is}
 use borrow.Author.Needs.{needs}
-use Rattle.walk.proofs.floor.Statement.{statement}
-use Rattle.walk.proofs.floor.Tie as tie
+use Rattle.board.proofs.floor.Statement.{statement}
+use Rattle.board.proofs.floor.Tie as tie
 
 abbrev Inv-loop : tie.InvT-loop
 Inv-loop board table first core most₀ j₀ most j = (j ≤ core) × (most ≡ mostOf j (twinRankOn board table first core)) × (most ≤ 65536)

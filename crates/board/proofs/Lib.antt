@@ -1,0 +1,3 @@
+pub mod ReadLaws
+pub mod ReadyLaws
+pub mod Calls
