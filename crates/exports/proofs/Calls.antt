@@ -10,7 +10,7 @@ use Rattle.tasks.specs.Task.{rows}
 use Rattle.table.specs.Fault.{check}
 use Rattle.rules.specs.Search.{search}
 use Rattle.player.specs.declared.Player.{Player}
-use Rattle.player.specs.declared.Shown.{Shown}
+use Rattle.clock.specs.declared.Shown.{Shown}
 use Rattle.player.specs.Player.{stepped, afterStep, started, afterStart}
 use Rattle.planner.proofs.Calls.{PlanText, plan-text-only}
 use Rattle.exports.specs.Packed.{listed, SearchedAs, checkedAs, ToldAs}

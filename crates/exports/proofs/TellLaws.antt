@@ -21,9 +21,9 @@ use denote.Struct.Laws as LL
 use denote.Triple.Spec.{tripleOf}
 use denote.Triple.Statement.{Contract}
 use denote.Triple.Clauses.{Lasts, lasts}
-use Rattle.player.specs.declared.Shown.{Shown}
-use Rattle.player.proofs.Shown as S
-use Rattle.player.proofs.Shown.Laws as S′
+use Rattle.clock.specs.declared.Shown.{Shown}
+use Rattle.clock.proofs.Shown as S
+use Rattle.clock.proofs.Shown.Laws as S′
 use Rattle.exports.specs.Packed.{ToldAs}
 use Rattle.exports.proofs.tell as tell
 

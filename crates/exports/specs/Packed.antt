@@ -6,7 +6,7 @@ use mathlib.Core.List.{List}
 use Rattle.tasks.specs.declared.TaskList.{TaskList}
 use Rattle.table.specs.Fault.{noFault, inCell, inJob, Checked, refused, checked}
 use Rattle.rules.specs.Search.{Searched}
-use Rattle.player.specs.declared.Shown.{Shown}
+use Rattle.clock.specs.declared.Shown.{Shown}
 
 -- a list as numbers, from its arrays
 abbrev pub listed : ℕ → List ℕ → List ℕ → List ℕ → List ℕ → List ℕ → TaskList

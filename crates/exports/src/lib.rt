@@ -11,8 +11,8 @@ ghost use Rattle.player.specs.Player.{stepped, afterStep, started, afterStart};
 ghost use Rattle.planner.specs.Answer.{answerTo};
 ghost use Rattle.exports.specs.Packed.{listed, SearchedAs, packedAs, checkedAs, ToldAs};
 use checker::Verdict;
+use clock::Shown;
 use player::Player;
-use player::Shown;
 use tasks::TaskList;
 
 // A list, from its arrays.

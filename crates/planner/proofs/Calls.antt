@@ -17,7 +17,7 @@ use Rattle.checker.specs.declared.Verdict.{Verdict}
 use Rattle.checker.specs.Checks.{toldOf as checkedAs}
 use Rattle.checker.proofs.Calls.{told-only as checked-only}
 use Rattle.player.specs.declared.Player.{Player}
-use Rattle.player.specs.declared.Shown.{Shown}
+use Rattle.clock.specs.declared.Shown.{Shown}
 use Rattle.player.specs.Player.{started, afterStart}
 use Rattle.frames.specs.Write.{Written}
 use Rattle.frames.proofs.Calls.{written-only}

@@ -19,7 +19,7 @@ use Rattle.checker.specs.declared.Verdict.the-variants.{Refused}
 use Rattle.checker.specs.Checks.{toldOf as checkedAs}
 use Rattle.checker.proofs.TellLaws.{check-refused}
 use Rattle.player.specs.declared.Player.{Player}
-use Rattle.player.specs.declared.Shown.{Shown}
+use Rattle.clock.specs.declared.Shown.{Shown}
 use Rattle.player.specs.Player.{recordOr, checkRefusal, recordOf, firstShown, started, afterStart}
 
 module _ {m : ℕ} {ts : List Task} {r : Lent} (s : Scanned m ts r) (x : r .refusal ≢ 0) where

@@ -7,8 +7,8 @@ use denote.Ref.{now}
 use Rattle.laws.proofs.Only.{Says, only-both}
 use Rattle.tasks.specs.declared.TaskList.{TaskList}
 use Rattle.tasks.specs.Task.{rows}
+use Rattle.clock.specs.declared.Shown.{Shown}
 use Rattle.player.specs.declared.Player.{Player}
-use Rattle.player.specs.declared.Shown.{Shown}
 use Rattle.player.specs.declared.Started.{Started}
 use Rattle.player.specs.Player.{stepped, afterStep, started, afterStart}
 use Rattle.player.proofs.step as step

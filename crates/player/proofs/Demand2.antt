@@ -16,7 +16,7 @@ use Rattle.laws.proofs.ListLaws.{tab-at}
 use Rattle.tasks.specs.declared.Task.{Task}
 use Rattle.tasks.specs.declared.TaskList.{TaskList}
 use Rattle.tasks.specs.Task.{rate, task, rows}
-use Rattle.tasks.specs.Refusal.{within, unless, tableLength, IsSound}
+use Rattle.tasks.specs.Refusal.{tableLength, IsSound}
 use Rattle.tasks.specs.Window.{InWindow}
 use Rattle.tasks.specs.Instance.{instanceOf}
 use Rattle.tasks.proofs.SoundLaws.{SoundList, sound-list}
@@ -26,13 +26,14 @@ use Rattle.checker.specs.declared.Verdict.the-variants.{Valid as IsValid}
 use Rattle.checker.specs.Checks.{toldOf}
 use Rattle.checker.proofs.Calls.{CheckTable}
 use Rattle.checker.proofs.Demand2.{tells}
+use Rattle.clock.specs.declared.Shown.{Shown}
+use Rattle.clock.specs.Clock.{elapsedAt, timeAfter}
+use Rattle.clock.proofs.ClockLaws.{tickAfter, tick-after}
 use Rattle.player.specs.declared.Player.{Player}
-use Rattle.player.specs.declared.Shown.{Shown}
-use Rattle.player.specs.Player.{cellsOf, stepRefusal, advanced, stepped, afterStep, numbers, checkRefusal, startRefusal, recordOf, firstShown, started, afterStart}
-use Rattle.player.specs.Played.{shownAs, shownAt, unitsIn, elapsedAt, timeAfter}
-use Rattle.player.proofs.StepLaws.{Unspoilt}
+use Rattle.player.specs.Player.{cellsOf, stepped, afterStep, checkRefusal, startRefusal, recordOf, firstShown, started, afterStart}
+use Rattle.player.specs.Played.{shownAs, shownAt, unitsIn}
 use Rattle.player.proofs.PlayLaws.{plays-work, plays-open, plays-rated, plays-once}
-use Rattle.player.proofs.ClockLaws.{tickAfter, moved, tick-after, moved-none, moved-step, moved-answer, made-unspoilt, made-cells}
+use Rattle.player.proofs.RecordLaws.{InRange, moved, moved-none, moved-step, moved-answer, made-unspoilt, made-cells}
 use Rattle.player.proofs.Calls.{Start, Step}
 
 -- ---- statements
@@ -98,7 +99,7 @@ module _ (list : TaskList) (m : ℕ) (t : List ℕ) (p : Player) (tick : ℕ →
   sl : SoundList m ts
   sl = sound-list m ts (met .0)
 
-  unspoilt : Unspoilt made
+  unspoilt : InRange made
   unspoilt = made-unspoilt sl t (tick 0)
 
   -- the table is accepted
@@ -227,9 +228,3 @@ pub accepts : (list : TaskList) (m : ℕ) (t : List ℕ) (p q : Player) (τ : �
 unfolding toldOf
 accepts list m t p q τ r e = let v = start-verdict list m t p q τ r e in
     (λ z. sym (none-wrong (check m (rows list) t) (some-refused m (rows list) t) (sym v ∙ z)), λ x. v ∙ ap checkRefusal (sym x))
-
--- ---- 01's example
--- H = 12, and slot 3 at tick 4294967295: at the next tick, 0, it is slot 4 and not 0
-after-wrap : afterStep (numbers 4294967295 12 3 3 1 1) 0 .position ≡ 4
-unfolding afterStep stepRefusal advanced within unless
-after-wrap = refl

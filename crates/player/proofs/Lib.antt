@@ -1,8 +1,7 @@
-pub mod StepLaws
 mod ApartLaws
 mod Element
 mod StartLaws
 pub mod PlayLaws
-pub mod ClockLaws
+pub mod RecordLaws
 pub mod Calls
 pub mod Demand2

@@ -22,7 +22,7 @@ use Rattle.tasks.specs.Instance.{instanceOf}
 use Rattle.tasks.proofs.WindowLaws.{work-at, open-window}
 use Rattle.tasks.proofs.SoundLaws.{SoundList, length-whole, sound-cyclic}
 use Rattle.table.specs.Table.{share, done, Valid}
-use Rattle.player.specs.Player.{shownCell}
+use Rattle.clock.specs.Clock.{shownCell}
 use Rattle.player.specs.Played.{shownAs}
 
 -- ---- a cell that is shown

@@ -28,14 +28,15 @@ use Rattle.table.specs.Fault.{Fault, checkedIf, check}
 use Rattle.checker.specs.declared.Verdict.{Verdict}
 use Rattle.checker.specs.declared.Verdict.the-variants.{Valid, Cell, Job, Refused as Told}
 use Rattle.checker.specs.Checks.{toldOf}
+use Rattle.clock.specs.declared.Next.{Next}
+use Rattle.clock.specs.declared.Shown.{Shown}
+use Rattle.clock.specs.Clock.{staysOf, answerOf}
 use Rattle.player.specs.declared.Player.{Player}
-use Rattle.player.specs.declared.Next.{Next}
-use Rattle.player.specs.declared.Shown.{Shown}
-use Rattle.player.specs.Player.{cellsOf, staysOf, answerOf, firstShown, checkRefusal, startRefusal, padded, recordOf, started, afterStart, Startable}
+use Rattle.player.specs.Player.{cellsOf, firstShown, checkRefusal, startRefusal, padded, recordOf, started, afterStart, Startable}
 
 -- ---- arrays
 -- n numbers
-pub padded-length : (n k : ℕ) (g : ℕ → ℕ) → length (padded n k g) ≡ n
+padded-length : (n k : ℕ) (g : ℕ → ℕ) → length (padded n k g) ≡ n
 unfolding padded
 padded-length n k g = tab-length n _
 
@@ -50,12 +51,12 @@ unfolding padded
 padded-behind n k g i l a = tab-at n _ i 0 l ∙ gate-ge i k (g i) a
 
 -- rules that agree on the first k
-pub padded-same : (n k : ℕ) (g h : ℕ → ℕ) → ((i : ℕ) → i < k → g i ≡ h i) → padded n k g ≡ padded n k h
+padded-same : (n k : ℕ) (g h : ℕ → ℕ) → ((i : ℕ) → i < k → g i ≡ h i) → padded n k g ≡ padded n k h
 unfolding padded
 padded-same n k g h e = tab-same n _ _ (λ i _. ⊎-elim (λ l. ap (gate (ltb i k)) (e i l)) (λ l. gate-ge i k (g i) l ∙ sym (gate-ge i k (h i) l)) (lt-or-ge i k))
 
 -- nothing is filled yet
-pub padded-none : (n : ℕ) (g : ℕ → ℕ) → replicate n 0 ≡ padded n 0 g
+padded-none : (n : ℕ) (g : ℕ → ℕ) → replicate n 0 ≡ padded n 0 g
 padded-none n g = ext-getD 0 (replicate n 0) (padded n 0 g) (length-replicate {A = ℕ} n 0 ∙ sym (padded-length n 0 g))
     (λ i l. let a : i < n = omega (arith, length-replicate {A = ℕ} n 0) in getD-replicate n i 0 0 a ∙ sym (padded-behind n 0 g i a (omega arith)))
 
@@ -70,12 +71,24 @@ one-more n k g l = ext-getD 0 _ _ (length-set (padded n k g) k (g k) ∙ padded-
           (lt-or-ge i k)
     ])
 
-pub padded-more : (n k : ℕ) (g : ℕ → ℕ) (xs : List ℕ) → xs ≡ padded n k g → k < n → set xs k (g k) ≡ padded n (k + 1) g
-padded-more n k g xs e l = ap (λ s. set s k (g k)) e ∙ one-more n k g l
+-- k of count numbers are filled
+pub record Filling (n count : ℕ) (g : ℕ → ℕ) (xs : List ℕ) (k : ℕ) : Type 0 where
+  pub some : k ≤ count
+  pub so-far : xs ≡ padded n k g
 
--- all are filled
-pub padded-full : (n k k' : ℕ) (g : ℕ → ℕ) (xs : List ℕ) → xs ≡ padded n k g → k ≤ k' → k' ≤ k → xs ≡ padded n k' g
-padded-full n k k' g xs e a b = e ∙ ap (λ i. padded n i g) (le-antisymm a b)
+module _ {n count : ℕ} {g : ℕ → ℕ} {xs : List ℕ} where
+  -- at first none
+  pub filling-none : xs ≡ replicate n 0 → Filling n count g xs 0
+  filling-none e = record { some = omega arith; so-far = e ∙ padded-none n g }
+
+  module _ {k : ℕ} (f : Filling n count g xs k) where
+    -- then one more
+    pub filling-more : k < count → count ≤ n → Filling n count g (set xs k (g k)) (k + 1)
+    filling-more l h = record { some = omega arith; so-far = ap (λ s. set s k (g k)) (f .so-far) ∙ one-more n k g (omega arith) }
+
+    -- and at last all
+    pub filling-all : count ≤ k → xs ≡ padded n count g
+    filling-all l = f .so-far ∙ ap (λ i. padded n i g) (le-antisymm (f .some) l)
 
 -- ---- the record
 -- the record of a start, made of its parts

@@ -1,6 +1,6 @@
 -- A table as it is played from its start.
 -- Assumes nothing.
-use Prim.Native.Nat.{ℕ, suc, _+_, _*_, _%_}
+use Prim.Native.Nat.{ℕ, _+_, _*_, _%_}
 use mathlib.Core.List.{List}
 use lib.Dec.{eqb}
 use lib.ListN.{length}
@@ -9,7 +9,7 @@ use Rattle.laws.specs.Lists.{nth, tab}
 use Rattle.tasks.specs.declared.Task.{Task}
 use Rattle.tasks.specs.Task.{rate, task}
 use Rattle.tasks.specs.Refusal.{tableLength}
-use Rattle.player.specs.Player.{shownCell, elapsedOf}
+use Rattle.clock.specs.Clock.{shownCell}
 
 -- what a cell v is shown as on core j at an age
 abbrev pub shownAs : ℕ → List Task → ℕ → ℕ → ℕ → ℕ
@@ -22,12 +22,3 @@ shownAt m ts table t = tab 4 (λ j. shownAs m ts t j (nth table (t % tableLength
 -- the units that task i does in a slot that shows these cells: the rates of its own
 abbrev pub unitsIn : List Task → ℕ → List ℕ → ℕ
 unitsIn ts i shown = sum 4 (λ j. gate (eqb (nth shown j) i) (rate (task ts i) j))
-
--- ---- ticks
--- the elapsed number from tick s to the next
-abbrev pub elapsedAt : (ℕ → ℕ) → ℕ → ℕ
-elapsedAt tick s = elapsedOf (tick (suc s)) (tick s)
-
--- the time after s steps: the sum of their elapsed numbers
-abbrev pub timeAfter : (ℕ → ℕ) → ℕ → ℕ
-timeAfter tick s = sum s (elapsedAt tick)

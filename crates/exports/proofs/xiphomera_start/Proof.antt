@@ -44,10 +44,10 @@ use Rattle.tasks.proofs.TaskList as L
 use Rattle.tasks.proofs.TaskList.Laws as L′
 use Rattle.player.specs.Player.{started, afterStart}
 use Rattle.player.specs.declared.Player.{Player}
-use Rattle.player.specs.declared.Shown.{Shown}
+use Rattle.clock.specs.declared.Shown.{Shown}
 use Rattle.player.proofs.Player as T
-use Rattle.player.proofs.Shown as S
-use Rattle.player.proofs.Shown.Laws as S′
+use Rattle.clock.proofs.Shown as S
+use Rattle.clock.proofs.Shown.Laws as S′
 use Rattle.player.proofs.start as start
 use Rattle.player.proofs.start.Symbol as start-def
 use Rattle.player.proofs.start.Symbol.{name as #player·start}

@@ -38,10 +38,10 @@ use denote.Triple.Walked.{says, Stays, gave-ref, stay-dropped, walkOf, goes-gave
 use denote.Exit.{yes}
 use Rattle.player.specs.Player.{stepped, afterStep}
 use Rattle.player.specs.declared.Player.{Player}
-use Rattle.player.specs.declared.Shown.{Shown}
+use Rattle.clock.specs.declared.Shown.{Shown}
 use Rattle.player.proofs.Player as T
-use Rattle.player.proofs.Shown as S
-use Rattle.player.proofs.Shown.Laws as S′
+use Rattle.clock.proofs.Shown as S
+use Rattle.clock.proofs.Shown.Laws as S′
 use Rattle.player.proofs.step as step
 use Rattle.player.proofs.step.Symbol as step-def
 use Rattle.player.proofs.step.Symbol.{name as #player·step}

@@ -57,8 +57,8 @@ use Rattle.player.specs.declared.Player.{Player}
 use Rattle.player.specs.declared.Started.{Started}
 use Rattle.player.proofs.Player as P
 use Rattle.player.proofs.Player.Laws as P′
-use Rattle.player.proofs.Shown as D
-use Rattle.player.proofs.Shown.Laws as D′
+use Rattle.clock.proofs.Shown as D
+use Rattle.clock.proofs.Shown.Laws as D′
 use Rattle.player.proofs.Started as N
 use Rattle.player.proofs.Started.Laws as N′
 use Rattle.planner.proofs.ScanCall.{Scan, scan-says, Tasks, to-scan, goes-scan}

@@ -48,12 +48,12 @@ use Rattle.tasks.proofs.TaskList as L
 use Rattle.tasks.proofs.TaskList.Laws as L′
 use Rattle.player.specs.Player.{started, afterStart}
 use Rattle.player.specs.declared.Player.{Player}
-use Rattle.player.specs.declared.Shown.{Shown}
+use Rattle.clock.specs.declared.Shown.{Shown}
 use Rattle.player.specs.declared.Started.{Started}
 use Rattle.player.proofs.Player as T
 use Rattle.player.proofs.Player.Laws as T′
-use Rattle.player.proofs.Shown as S
-use Rattle.player.proofs.Shown.Laws as S′
+use Rattle.clock.proofs.Shown as S
+use Rattle.clock.proofs.Shown.Laws as S′
 use Rattle.player.proofs.Started as N
 use Rattle.player.proofs.Started.Laws as N′
 use Rattle.player.proofs.start_record as start-record

@@ -1,5 +1,5 @@
--- `player::step` meets its contract: a walk of its MIR, by hand. The borrow is opened; the record's numbers are copied out and passed to `next_of`, of which only its contract is known;
--- four bytes of the table are read where they lie; three fields are stored, and what `answer` makes of the rest is returned. The borrow is closed at the new record.
+-- `player::step` meets its contract: a walk of its MIR, by hand. The borrow is opened; the record's numbers are copied out and passed to `clock::next_of`, of which only its contract is known;
+-- four bytes of the table are read where they lie; three fields are stored, and what `clock::answer` makes of the rest is returned. The borrow is closed at the new record.
 -- Assumes nothing.
 use mathlib.Core.Path.{_≡_, refl, sym, ap, _∙_, subst}
 use Prim.Native.Nat.{ℕ, zero, suc, _+_, _≤_, _<_, _^_}
@@ -45,26 +45,27 @@ use denote.Triple.Table.{entered, cited}
 use denote.Triple.Walked.{says, Stays, stay-ref, stay-none, walkOf, goes-none, goes-ref, Walks, ends-at, walked, walk-meets}
 use denote.Exit.{yes}
 use Rattle.laws.specs.Lists.{nth}
-use Rattle.player.specs.Player.{numbers, nextOf, answerOf}
+use Rattle.clock.specs.Clock.{nextOf, answerOf}
+use Rattle.clock.specs.declared.Next.{Next}
+use Rattle.clock.specs.declared.Shown.{Shown}
 use Rattle.player.specs.declared.Player.{Player}
-use Rattle.player.specs.declared.Next.{Next}
-use Rattle.player.specs.declared.Shown.{Shown}
-use Rattle.player.proofs.ApartLaws.{stored, reads-in, stores, answers}
+use Rattle.player.specs.Player.{stored}
+use Rattle.player.proofs.ApartLaws.{reads-in, stores, answers}
 use Rattle.player.proofs.Element.{byte}
 use Rattle.player.proofs.Player as T
 use Rattle.player.proofs.Player.Laws as T′
-use Rattle.player.proofs.Next as N
-use Rattle.player.proofs.Next.Laws as N′
-use Rattle.player.proofs.Shown as S
-use Rattle.player.proofs.Shown.Laws as S′
-use Rattle.player.proofs.next_of as next-of
-use Rattle.player.proofs.next_of.Symbol as next-of-def
-use Rattle.player.proofs.next_of.Symbol.{name as #player·next-of}
-use Rattle.player.proofs.next_of.Met as next-of-thm
-use Rattle.player.proofs.answer as answer
-use Rattle.player.proofs.answer.Symbol as answer-def
-use Rattle.player.proofs.answer.Symbol.{name as #player·answer}
-use Rattle.player.proofs.answer.Met as answer-thm
+use Rattle.clock.proofs.Next as N
+use Rattle.clock.proofs.Next.Laws as N′
+use Rattle.clock.proofs.Shown as S
+use Rattle.clock.proofs.Shown.Laws as S′
+use Rattle.clock.proofs.next_of as next-of
+use Rattle.clock.proofs.next_of.Symbol as next-of-def
+use Rattle.clock.proofs.next_of.Symbol.{name as #clock·next-of}
+use Rattle.clock.proofs.next_of.Met as next-of-thm
+use Rattle.clock.proofs.answer as answer
+use Rattle.clock.proofs.answer.Symbol as answer-def
+use Rattle.clock.proofs.answer.Symbol.{name as #clock·answer}
+use Rattle.clock.proofs.answer.Met as answer-thm
 use Rattle.player.proofs.step.Key.{name as #player·step}
 use Rattle.player.proofs.step as f
 use Rattle.player.proofs.step.Statement as stated
@@ -134,9 +135,9 @@ module _ {M : Type 1} (𝓤 : URA M) (H : Heap 𝓤) (A : Atoms 𝓤) (W : Given
   abbrev Post : Val → SProp 𝓤
   Post = walkOf 𝓤 H A f.ended stayed (f.clauses 𝓤 H A at-mem run) .post (((κ, tt), (q, tt), tt, x, at), tt)
 
-  -- what `next_of` says of what it works out
+  -- what `clock::next_of` says of what it works out
   abbrev Worked : Next → Type 0
-  Worked r = r ≡ nextOf (numbers (h .last) (h .h) (h .position) (h .age) (h .m) (h .n)) n
+  Worked r = r ≡ nextOf (h .last) (h .h) (h .position) (h .age) (h .m) (h .n) n
 
   -- the byte of the table, k places after the first that is read
   abbrev cell : Next → ℕ → ℕ
@@ -145,24 +146,24 @@ module _ {M : Type 1} (𝓤 : URA M) (H : Heap 𝓤) (A : Atoms 𝓤) (W : Given
   abbrev first : Next → ℕ
   first r = nth (h .table) (r .at)
 
-  -- what `answer` says of what it answers
+  -- what `clock::answer` says of what it answers
   abbrev Answered : Next → Shown → Type 0
   Answered r s = s ≡ answerOf r (h .m) (h .n) (h .offsets) (first r ∷ cell r 1 ∷ cell r 2 ∷ cell r 3 ∷ [])
 
   -- what closing the borrow asks
-  made : (r : Next) (vs us : List Val) → Is N.the-row r vs → Is T.the-row h us → Is T.the-row (stored h n r) (T′.lowered (stored h n r) ∷ [])
+  made : (r : Next) (vs us : List Val) → Is N.the-row r vs → Is T.the-row h us → Is T.the-row (stored h r) (T′.lowered (stored h r) ∷ [])
   made r vs us is was =
       let p = LL.owed T.the-type T′.the-laws h us was in
       let k = LL.owed N.the-type N′.the-laws r vs is in
-      let i = LL.owes T.the-type T′.the-laws (stored h n r) (k .0, (p .1 .0, (k .1 .1 .1 .0, (k .1 .1 .1 .1 .0, p .1 .1 .1 .1)))) in
-      subst (Is T.the-row (stored h n r)) (T′.lowers .val-is (stored h n r) _ i) i
+      let i = LL.owes T.the-type T′.the-laws (stored h r) (k .0, (p .1 .0, (k .1 .1 .1 .0, (k .1 .1 .1 .1 .0, p .1 .1 .1 .1)))) in
+      subst (Is T.the-row (stored h r)) (T′.lowers .val-is (stored h r) _ i) i
 
   -- what is had at the end is what the contract asks
   exits : (r : Next) (s : Shown) (w : Val) → Worked r → Answered r s → Is S.the-row s (w ∷ [])
-      → ent 𝓤 (sep 𝓤 (A .obs γ (T.the-row .coded .code (stored h n r))) (sep 𝓤 (A .bor κ (Body (mem T.the-row) b o γ)) (A .lft κ q))) (Post w)
+      → ent 𝓤 (sep 𝓤 (A .obs γ (T.the-row .coded .code (stored h r))) (sep 𝓤 (A .bor κ (Body (mem T.the-row) b o γ)) (A .lft κ q))) (Post w)
   exits r s w e a is =
-      qed W (‵ (fobs γ (T.the-row .coded .code (stored h n r))) ∷ ‵ (fbor κ (Body (mem T.the-row) b o γ)) ∷ ‵ (flft κ q) ∷ []) ∵
-      suffices ! _ (ends-at 𝓤 H A f.ended stayed (f.clauses 𝓤 H A at-mem run) W (((κ, tt), (q, tt), tt, x, at), tt) w s (stored h n r, (tt, tt)) (tt, (tt, tt))) $
+      qed W (‵ (fobs γ (T.the-row .coded .code (stored h r))) ∷ ‵ (fbor κ (Body (mem T.the-row) b o γ)) ∷ ‵ (flft κ q) ∷ []) ∵
+      suffices ! _ (ends-at 𝓤 H A f.ended stayed (f.clauses 𝓤 H A at-mem run) W (((κ, tt), (q, tt), tt, x, at), tt) w s (stored h r, (tt, tt)) (tt, (tt, tt))) $
       says ! (a ∙ answers h n r e, stores h n r e) $ nothing ! $ move ! (3 ∷ 0 ∷ []) $ join ! $
       frame ! $ feqI ! (List Val) (vptr b o ∷ []) (vptr b o ∷ []) refl $ fjoin3 ! $ nothing ! $ owned ! u32 (Is u32) (uint-makes 𝓤 H A W w32) n _ (refl, fits) $ fjoin ! $ move ! (1 ∷ 0 ∷ []) $ fjoin ! $
       owned ! S.the-row (Is S.the-row) ((LL.makes S.the-type S′.the-plain) 𝓤 H A) s _ is $ move ! (1 ∷ 0 ∷ []) $ done !
@@ -234,7 +235,7 @@ module _ {M : Type 1} (𝓤 : URA M) (H : Heap 𝓤) (A : Atoms 𝓤) (W : Given
   answer-told r s = exE 𝓤 _ (λ ws. snd∗ 𝓤 (sem 𝓤 H A (lasts answer.ended tt (to-answer r .0 .3) ws)) (fact 𝓤 (Answered r s)))
 
   -- ---- the walk
-  module _ (C : Calls 𝓤 H) (Λ : Loops 𝓤 H) (fm : FmC 𝓤 H (W .laws) C) (known-next : Triple 𝓤 (C #player·next-of) (NextOf 𝓤 H A at-mem run)) (known-answer : Triple 𝓤 (C #player·answer) (Answer 𝓤 H A at-mem run)) where
+  module _ (C : Calls 𝓤 H) (Λ : Loops 𝓤 H) (fm : FmC 𝓤 H (W .laws) C) (known-next : Triple 𝓤 (C #clock·next-of) (NextOf 𝓤 H A at-mem run)) (known-answer : Triple 𝓤 (C #clock·answer) (Answer 𝓤 H A at-mem run)) where
     walk : ent 𝓤 (onEntry 𝓤 H A f.signature (κ, tt) (q, tt) x at) (WpFn 𝓤 H C Λ code.function (vptr b o ∷ vint w32 n ∷ []) Post)
     walk =
         qed W ((‵ (flft κ q) ⊛ ‵ ftrue) ∷ ‵ (owns (MutRef (named 0) κ T.the-row ∷ u32 ∷ []) x at) ∷ []) ∵ split ! $ move ! (2 ∷ []) $ fsplit ! $ fsplit3 ! $ drop ! $ move ! (0 ∷ 1 ∷ 3 ∷ []) $
@@ -244,7 +245,7 @@ module _ {M : Type 1} (𝓤 : URA M) (H : Heap 𝓤) (A : Atoms 𝓤) (W : Given
         move ! (50 ∷ 51 ∷ 52 ∷ []) $ opens ! tt T.the-row {h = h} b o (λ vs. spelt ! T.the-row (Is T.the-row) (shows 𝓤 H A T.the-row) (λ d. T′.lowered d ∷ []) (T′.lowers .val-is) fullShare h vs b o $
         use1 W (‵ (fat fullShare T′.mir b o (T′.lowered h))) (W .laws .raw-at fullShare T′.mir b o (T′.lowered h)) $
         move ! (1 ∷ []) $ peeks ! T.the-row (Is T.the-row) (shows 𝓤 H A T.the-row) h (T′.lowered h ∷ []) (λ was. drop ! $
-        -- [the record's cell; the open borrow; obs; auth; _24; …; _0; …]: the six numbers are copied out, and `next_of` is called
+        -- [the record's cell; the open borrow; obs; auth; _24; …; _0; …]: the six numbers are copied out, and `clock::next_of` is called
         assigns ! (of-opd ! (load ! (from ! (hop ! (look ! 50 refl) (fld ! refl (stop !)))) (look-in ! 0 (sub ! 0 refl (whole !))))) (from ! (stop !)) (init ! 34 refl (tt, record { fits = lies h _ was .last })) $
         assigns ! (of-opd ! (load ! (from ! (hop ! (look ! 50 refl) (fld ! refl (stop !)))) (look-in ! 0 (sub ! 1 refl (whole !))))) (from ! (stop !)) (init ! 32 refl (tt, record { fits = lies h _ was .h' })) $
         assigns ! (of-opd ! (load ! (from ! (hop ! (look ! 50 refl) (fld ! refl (stop !)))) (look-in ! 0 (sub ! 2 refl (whole !))))) (from ! (stop !)) (init ! 30 refl (tt, record { fits = lies h _ was .position })) $
@@ -283,7 +284,7 @@ module _ {M : Type 1} (𝓤 : URA M) (H : Heap 𝓤) (A : Atoms 𝓤) (W : Given
         assigns ! (of-opd ! (load ! (from ! (fld ! refl (stop !))) (look-in ! 46 (sub ! 0 refl (whole !))))) (from ! (hop ! (look ! 50 refl) (fld ! refl (stop !)))) (store-in ! 0 (sub ! 0 refl (whole !)) (tt, record { fits = LL.owed N.the-type N′.the-laws r (v ∷ []) is .0 .1 })) $
         assigns ! (of-opd ! (load ! (from ! (fld ! refl (stop !))) (look-in ! 46 (sub ! 3 refl (whole !))))) (from ! (hop ! (look ! 50 refl) (fld ! refl (stop !)))) (store-in ! 0 (sub ! 2 refl (whole !)) (tt, record { fits = LL.owed N.the-type N′.the-laws r (v ∷ []) is .1 .1 .1 .0 .1 })) $
         assigns ! (of-opd ! (load ! (from ! (fld ! refl (stop !))) (look-in ! 46 (sub ! 4 refl (whole !))))) (from ! (hop ! (look ! 50 refl) (fld ! refl (stop !)))) (store-in ! 0 (sub ! 3 refl (whole !)) (tt, record { fits = LL.owed N.the-type N′.the-laws r (v ∷ []) is .1 .1 .1 .1 .0 .1 })) $
-        -- m, n and the offsets are copied out, and `answer` is called
+        -- m, n and the offsets are copied out, and `clock::answer` is called
         assigns ! (of-opd ! (load ! (from ! (hop ! (look ! 50 refl) (fld ! refl (stop !)))) (look-in ! 0 (sub ! 5 refl (whole !))))) (from ! (stop !)) (store ! 26 refl (tt, record { fits = lies h _ was .m })) $
         assigns ! (of-opd ! (load ! (from ! (hop ! (look ! 50 refl) (fld ! refl (stop !)))) (look-in ! 0 (sub ! 6 refl (whole !))))) (from ! (stop !)) (store ! 24 refl (tt, record { fits = lies h _ was .n })) $
         assigns ! (of-opd ! (load ! (from ! (hop ! (look ! 50 refl) (fld ! refl (stop !)))) (look-in ! 0 (sub ! 4 refl (whole !))))) (from ! (stop !)) (init ! 4 refl (array-lawful 𝓤 H A W u16 (uint-lawful 𝓤 H A W w16) 16 .typed (h .offsets) _ (lies h _ was .offsets) .0)) $
@@ -293,14 +294,14 @@ module _ {M : Type 1} (𝓤 : URA M) (H : Heap 𝓤) (A : Atoms 𝓤) (W : Given
         split ! $ move ! (1 ∷ []) $ use1 W (raw (fact 𝓤 (Answered r s))) (answer-told r s) $ heard ! (Answered r s) (λ a. split ! $ drop ! $
         peeks ! S.the-row (Is S.the-row) (shows 𝓤 H A S.the-row) s (w ∷ []) (λ is-s.
         land ! (from ! (stop !)) (init ! 53 refl (LL.lawful S.the-type S′.the-laws 𝓤 H A W .typed s _ is-s .0)) $ drop ! $
-        use1 W (‵ (cellAt fullShare (T.the-row .mir) (T′.lowered (stored h n r) ∷ []) b o)) (W .laws .at-raw fullShare T′.mir b o (T′.lowered (stored h n r))) $
-        owned ! T.the-row (Is T.the-row) ((LL.makes T.the-type T′.the-plain) 𝓤 H A) (stored h n r) _ (made r (v ∷ []) _ is was) $ move ! (1 ∷ 0 ∷ []) $ closes ! tt T.the-row (stored h n r) (T′.lowered (stored h n r) ∷ []) b o $
+        use1 W (‵ (cellAt fullShare (T.the-row .mir) (T′.lowered (stored h r) ∷ []) b o)) (W .laws .at-raw fullShare T′.mir b o (T′.lowered (stored h r))) $
+        owned ! T.the-row (Is T.the-row) ((LL.makes T.the-type T′.the-plain) 𝓤 H A) (stored h r) _ (made r (v ∷ []) _ is was) $ move ! (1 ∷ 0 ∷ []) $ closes ! tt T.the-row (stored h r) (T′.lowered (stored h r) ∷ []) b o $
         -- [obs; the borrow; the token; _24; …; _0; …]
         returns ! (look ! 51 refl) $ forget ! 3 refl $ forget ! 5 refl $ forget ! 7 refl $ forget ! 9 refl $ forget ! 11 refl $ forget ! 13 refl $ forget ! 15 refl $ forget ! 17 refl $ forget ! 19 refl $ forget ! 21 refl $ forget ! 23 refl $ forget ! 25 refl $ forget ! 27 refl $ forget ! 29 refl $ forget ! 31 refl $ forget ! 33 refl $ forget ! 35 refl $ forget ! 37 refl $ forget ! 39 refl $ forget ! 41 refl $ forget ! 43 refl $ forget ! 45 refl $ forget ! 47 refl $ forget ! 49 refl $ forget ! 51 refl $
         move ! (51 ∷ 52 ∷ []) $ free1 ! $ move ! (49 ∷ 50 ∷ []) $ free1 ! $ move ! (47 ∷ 48 ∷ []) $ free1 ! $ move ! (45 ∷ 46 ∷ []) $ free1 ! $ move ! (43 ∷ 44 ∷ []) $ free1 ! $ move ! (41 ∷ 42 ∷ []) $ free1 ! $ move ! (39 ∷ 40 ∷ []) $ free1 ! $ move ! (37 ∷ 38 ∷ []) $ free1 ! $ move ! (35 ∷ 36 ∷ []) $ free1 ! $ move ! (33 ∷ 34 ∷ []) $ free1 ! $ move ! (31 ∷ 32 ∷ []) $ free1 ! $ move ! (29 ∷ 30 ∷ []) $ free1 ! $ move ! (27 ∷ 28 ∷ []) $ free1 ! $ move ! (25 ∷ 26 ∷ []) $ free1 ! $ move ! (23 ∷ 24 ∷ []) $ free1 ! $ move ! (21 ∷ 22 ∷ []) $ free1 ! $ move ! (19 ∷ 20 ∷ []) $ free1 ! $ move ! (17 ∷ 18 ∷ []) $ free1 ! $ move ! (15 ∷ 16 ∷ []) $ free1 ! $ move ! (13 ∷ 14 ∷ []) $ free1 ! $ move ! (11 ∷ 12 ∷ []) $ free1 ! $ move ! (9 ∷ 10 ∷ []) $ free1 ! $ move ! (7 ∷ 8 ∷ []) $ free1 ! $ move ! (5 ∷ 6 ∷ []) $ free1 ! $ move ! (3 ∷ 4 ∷ []) $ free1 ! $ free0 ! $
         keep ! (0 ∷ 1 ∷ 2 ∷ []) $ by ! (exits r s w e a is-s))))))))))))))))))))))))))))))))))))
 
-module _ {M : Type 1} (𝓤 : URA M) (H : Heap 𝓤) (A : Atoms 𝓤) (W : Given 𝓤 H A) (at-mem : Memory → SProp 𝓤) (run : Routine → Fun 𝓤) (𝓣 : Tables 𝓤 H) (known-next : Triple 𝓤 (𝓣 .C #player·next-of) (NextOf 𝓤 H A at-mem run)) (known-answer : Triple 𝓤 (𝓣 .C #player·answer) (Answer 𝓤 H A at-mem run)) where
+module _ {M : Type 1} (𝓤 : URA M) (H : Heap 𝓤) (A : Atoms 𝓤) (W : Given 𝓤 H A) (at-mem : Memory → SProp 𝓤) (run : Routine → Fun 𝓤) (𝓣 : Tables 𝓤 H) (known-next : Triple 𝓤 (𝓣 .C #clock·next-of) (NextOf 𝓤 H A at-mem run)) (known-answer : Triple 𝓤 (𝓣 .C #clock·answer) (Answer 𝓤 H A at-mem run)) where
   f-walks : Walks 𝓤 H A f.ended stayed (WpFn 𝓤 H (𝓣 .C) (𝓣 .Λ) code.function) (f.clauses 𝓤 H A at-mem run)
   f-walks = walked 𝓤 H A f.ended stayed (f.clauses 𝓤 H A at-mem run) (WpFn 𝓤 H (𝓣 .C) (𝓣 .Λ) code.function) (λ κs. (ptr-vals, (uint-vals w32, tt))) (λ κs. (mut-tells (named 0) (κs .0) T.the-row, (uint-tells w32, tt)))
       (λ κs qs bounds a _ are. via 𝓤 _ (fst∗ 𝓤 _ (emp 𝓤)) (walk 𝓤 H A W at-mem run (κs .0) (qs .0) (a .0 .ptr .0) (a .0 .ptr .1) (a .0 .name) (a .0 .now) (a .1 .0) (are .1 .0 .1) (𝓣 .C) (𝓣 .Λ) (fmOf 𝓤 H (W .laws) 𝓣) known-next known-answer))
@@ -314,5 +315,5 @@ step-spec 𝓤 H 𝓜 𝓖 𝓡 =
     entered 𝓤 H (tripleOf 𝓤 H (𝓖 .A) f.signature (f.spec 𝓤 H (𝓖 .A) (𝓜 .mem) (𝓡 .run)))
     (tables 𝓤 H 𝓜 𝓡 code.env .C) (tables 𝓤 H 𝓜 𝓡 code.env .Λ) #player·step code.function (code.unfolded 𝓤 H 𝓜 𝓡)
     (f-meets 𝓤 H (𝓖 .A) (givenOf 𝓤 H 𝓜 𝓖) (𝓜 .mem) (𝓡 .run) (tablesOf 𝓤 H 𝓜 (tables 𝓤 H 𝓜 𝓡 code.env))
-    (cited 𝓤 H (NextOf 𝓤 H (𝓖 .A) (𝓜 .mem) (𝓡 .run)) 𝓜 𝓡 code.env #player·next-of next-of-def.routine code.calls-player·next-of (next-of-thm.met 𝓤 H 𝓜 𝓖 𝓡))
-    (cited 𝓤 H (Answer 𝓤 H (𝓖 .A) (𝓜 .mem) (𝓡 .run)) 𝓜 𝓡 code.env #player·answer answer-def.routine code.calls-player·answer (answer-thm.met 𝓤 H 𝓜 𝓖 𝓡)))
+    (cited 𝓤 H (NextOf 𝓤 H (𝓖 .A) (𝓜 .mem) (𝓡 .run)) 𝓜 𝓡 code.env #clock·next-of next-of-def.routine code.calls-clock·next-of (next-of-thm.met 𝓤 H 𝓜 𝓖 𝓡))
+    (cited 𝓤 H (Answer 𝓤 H (𝓖 .A) (𝓜 .mem) (𝓡 .run)) 𝓜 𝓡 code.env #clock·answer answer-def.routine code.calls-clock·answer (answer-thm.met 𝓤 H 𝓜 𝓖 𝓡)))

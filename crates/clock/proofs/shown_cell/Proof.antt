@@ -1,10 +1,10 @@
--- `player::shown_cell` meets its contract: each test decides.
+-- `clock::shown_cell` meets its contract: each test decides.
 -- Assumes nothing.
 use mathlib.Core.Path.{sym}
 use borrow.Author.Tests.{le-leb, lt-leb, lt-ltb, le-ltb}
 use Rattle.laws.specs.Sum.{gate}
-use Rattle.player.proofs.shown_cell.Statement.{statement}
-use Rattle.player.proofs.shown_cell.Tie as tie
+use Rattle.clock.proofs.shown_cell.Statement.{statement}
+use Rattle.clock.proofs.shown_cell.Tie as tie
 
 returns : tie.Need-returns
 unfolding gate

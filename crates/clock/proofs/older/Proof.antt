@@ -1,6 +1,6 @@
 use borrow.Author.Needs.{needs}
-use Rattle.player.proofs.older.Statement.{statement}
-use Rattle.player.proofs.older.Tie as tie
+use Rattle.clock.proofs.older.Statement.{statement}
+use Rattle.clock.proofs.older.Tie as tie
 
 pub older-spec : {M : Type 1} → statement M
 older-spec =

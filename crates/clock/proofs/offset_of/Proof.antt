@@ -1,4 +1,4 @@
--- `player::offset_of` meets its contract: the place of a task is its number less one, and behind the sixteen offsets stands 0.
+-- `clock::offset_of` meets its contract: the place of a task is its number less one, and behind the sixteen offsets stands 0.
 -- Assumes nothing.
 use Prim.Native.Nat.{pred}
 use mathlib.Core.Path.{_≡_, sym, ap, _∙_}
@@ -8,8 +8,8 @@ use native.Mathlib.Omega.{arith}
 use lib.ListN.{List·getD-eq-default}
 use Rattle.laws.specs.Lists.{nth}
 use borrow.Author.Needs.{needs}
-use Rattle.player.proofs.offset_of.Statement.{statement}
-use Rattle.player.proofs.offset_of.Tie as tie
+use Rattle.clock.proofs.offset_of.Statement.{statement}
+use Rattle.clock.proofs.offset_of.Tie as tie
 
 -- the place of the cell's task
 place-is : (c : tie.Joined1) → c .if1 .place ≡ pred (c .before .args .cell)

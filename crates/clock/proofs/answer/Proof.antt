@@ -1,9 +1,9 @@
--- `player::answer` meets its contract: a refused step shows zeros, any other the four cells.
+-- `clock::answer` meets its contract: a refused step shows zeros, any other the four cells.
 -- Assumes nothing.
 use borrow.Author.Needs.{needs}
-use Rattle.player.proofs.StepLaws.{answer-refused, answer-taken}
-use Rattle.player.proofs.answer.Statement.{statement}
-use Rattle.player.proofs.answer.Tie as tie
+use Rattle.clock.proofs.StepLaws.{answer-refused, answer-taken}
+use Rattle.clock.proofs.answer.Statement.{statement}
+use Rattle.clock.proofs.answer.Tie as tie
 
 returns : tie.Need-returns
 returns c = answer-refused _ _ _ _ _ (c .if1 .taken)

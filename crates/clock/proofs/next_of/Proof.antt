@@ -1,20 +1,19 @@
--- `player::next_of` meets its contract: a step that is not refused has numbers in range, so position + elapsed fits, and the place of its cells too.
+-- `clock::next_of` meets its contract: a step that is not refused has numbers in range, so position + elapsed fits, and the place of its cells too.
 -- Assumes nothing.
 use Prim.Native.Nat.{_<_, _^_}
 use mathlib.Core.Path.{_∙_}
 use native.Mathlib.Omega.{arith}
 use borrow.Author.Needs.{needs}
-use Rattle.player.specs.Player.{numbers}
-use Rattle.player.proofs.StepLaws.{Unspoilt, refused-not, next-refused, next-taken, slot-below, cells-below}
-use Rattle.player.proofs.next_of.Statement.{statement}
-use Rattle.player.proofs.next_of.Tie as tie
+use Rattle.clock.proofs.StepLaws.{Unspoilt, refused-not, next-refused, next-taken, slot-below, cells-below}
+use Rattle.clock.proofs.next_of.Statement.{statement}
+use Rattle.clock.proofs.next_of.Tie as tie
 
 -- what is known where the step is not refused
-in-time : (c : tie.After-elapsed) → let a = c .before .before .before .args in Unspoilt (numbers (a .last) (a .h) (a .position) (a .age) (a .m) (a .n)) × (c .elapsed .result < 2 ^ 31)
-in-time c = refused-not _ _ _ _ (c .before .before .step-refusal .ensures) (c .before .if1 .left) (c .elapsed .ensures)
+in-time : (c : tie.After-elapsed) → let a = c .before .before .before .args in Unspoilt (a .h) (a .position) (a .age) (a .m) (a .n) × (c .elapsed .result < 2 ^ 31)
+in-time c = refused-not _ _ _ _ _ _ _ _ _ (c .before .before .step-refusal .ensures) (c .before .if1 .left) (c .elapsed .ensures)
 
 returns : tie.Need-returns
-returns c = c .stays .ensures ∙ next-refused _ _ _ (c .before .before .step-refusal .ensures) (c .before .if1 .taken)
+returns c = c .stays .ensures ∙ next-refused _ _ _ _ _ _ _ _ (c .before .before .step-refusal .ensures) (c .before .if1 .taken)
 
 add-slot : tie.Need-add-slot
 add-slot c = let k = in-time c in omega arith
@@ -35,7 +34,7 @@ older-requires : tie.Need-older-requires
 older-requires c κs = in-time (c .before) .1
 
 returns-2 : tie.Need-returns-2
-returns-2 c = let d = c .before .before .before in next-taken _ _ _ _ _ _ (d .before .step-refusal .ensures) (d .if1 .left) (c .before .before .elapsed .ensures) (c .before .missed .ensures) (c .older .ensures)
+returns-2 c = let d = c .before .before .before in next-taken _ _ _ _ _ _ _ _ _ _ _ (d .before .step-refusal .ensures) (d .if1 .left) (c .before .before .elapsed .ensures) (c .before .missed .ensures) (c .older .ensures)
 
 pub next-of-spec : {M : Type 1} → statement M
 next-of-spec =

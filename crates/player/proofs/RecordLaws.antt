@@ -1,14 +1,13 @@
--- The player's clock: steps that are in time add up, across the counter's wrap, and the record of a start shows the table's cells of its time.
+-- The record of a start, moved on: steps that are in time add up, and the record shows the table's cells of its time.
 -- Assumes nothing.
 use Prim.Native.Nat.{ℕ, zero, suc, _+_, _*_, _-_, _%_, _^_, _≤_, _<_, min}
 use mathlib.Core.Path.{_≡_, sym, ap, _∙_}
 use mathlib.Core.Logic.{⊎-elim}
 use mathlib.Core.List.{List}
 use native.Mathlib.Omega.{arith}
-use native.Mathlib.Nat.{mod-lt, mod-eq-of-lt, mod-add-mod, mul-le-mul, add-zero, zero-add}
+use native.Mathlib.Nat.{mod-eq-of-lt, mul-le-mul, add-zero, zero-add}
 use lib.ListN.{length}
 use borrow.Author.Tests.{le-leb, lt-leb}
-use Rattle.laws.specs.Sum.{sum}
 use Rattle.laws.specs.Lists.{nth}
 use Rattle.laws.proofs.SumLaws.{lt-or-ge}
 use Rattle.laws.proofs.ListLaws.{tab-same}
@@ -16,29 +15,20 @@ use Rattle.tasks.specs.declared.Task.{Task}
 use Rattle.tasks.specs.Task.{task}
 use Rattle.tasks.specs.Refusal.{tableLength}
 use Rattle.tasks.proofs.SoundLaws.{SoundList}
+use Rattle.clock.specs.Clock.{shownCell, cellOf}
+use Rattle.clock.proofs.StepLaws.{Unspoilt}
+use Rattle.clock.proofs.ClockLaws.{tickAfter, moved-on}
 use Rattle.player.specs.declared.Player.{Player}
-use Rattle.player.specs.Player.{elapsedOf, shownCell, cellOf, cellsOf, stepRefusal, advanced, stepped, afterStep, recordOf}
-use Rattle.player.specs.Played.{timeAfter, shownAs, shownAt}
-use Rattle.player.proofs.StepLaws.{Unspoilt, not-refused}
+use Rattle.player.specs.Player.{cellsOf, stepped, afterStep, recordOf}
+use Rattle.player.specs.Played.{shownAs, shownAt}
 use Rattle.player.proofs.StartLaws.{padded-at}
 use Rattle.player.proofs.PlayLaws.{shown-beyond, shown-idle, cell-lt}
 
--- ---- ticks
--- the tick s slots after the tick τ
-abbrev pub tickAfter : ℕ → ℕ → ℕ
-tickAfter τ s = (τ + s) % 2 ^ 32
+-- ---- the record moved on
+-- its numbers are in range
+abbrev pub InRange : Player → Type 0
+InRange p = Unspoilt (p .h) (p .position) (p .age) (p .m) (p .n)
 
--- the elapsed number is the time that has passed, if that is below 2^32
-elapsed-is : (s e : ℕ) → e < 2 ^ 32 → elapsedOf (tickAfter (s % 2 ^ 32) e) (s % 2 ^ 32) ≡ e
-elapsed-is s e h = omega arith
-
--- ticks of 32 bits are told by the elapsed numbers
-pub tick-after : (tick : ℕ → ℕ) (n : ℕ) → ((s : ℕ) → s ≤ n → tick s < 2 ^ 32) → (s : ℕ) → s ≤ n → tick s ≡ tickAfter (tick 0) (timeAfter tick s)
-unfolding sum
-tick-after tick n l zero h = omega (arith, l 0 h)
-tick-after tick n l (suc s) h = omega (arith, tick-after tick n l s (omega arith), l s (omega arith), l (suc s) h)
-
--- ---- the clock
 -- a record moved on by s slots: position modulo H, age not past 1024, last modulo 2^32
 abbrev pub moved : Player → ℕ → Player
 moved p s = record {
@@ -52,45 +42,17 @@ moved p s = record {
   table = p .table;
 }
 
-module _ (p : Player) (u : Unspoilt p) where
-  -- a record that is moved on is not spoilt
-  moved-unspoilt : (s : ℕ) → Unspoilt (moved p s)
-  moved-unspoilt s = record {
-    some-slot = u .some-slot;
-    few-slots = u .few-slots;
-    some-core = u .some-core;
-    few-cores = u .few-cores;
-    some-task = u .some-task;
-    few-tasks = u .few-tasks;
-    in-table = mod-lt (p .position + s) (u .some-slot);
-    age-le = omega arith;
-  }
-
+module _ (p : Player) (u : InRange p) where
   module _ (s e : ℕ) (l : e < 2 ^ 31) where
-    -- a step that is in time is not refused
-    moved-taken : stepRefusal (moved p s) (tickAfter (moved p s .last) e) ≡ 0
-    moved-taken = not-refused _ _ (moved-unspoilt s) (omega (arith, elapsed-is (p .last + s) e (omega arith)))
-
-    -- it moves the record on
-    moved-advanced : advanced (moved p s) (tickAfter (moved p s .last) e) ≡ moved p (s + e)
-    unfolding advanced
-    moved-advanced = rw (elapsed-is (p .last + s) e (omega arith))
-        (same (omega arith) (mod-add-mod (p .position + s) (p .h) e ∙ ap (λ x. x % p .h) (omega arith)) (omega arith))
-      where
-        same : {a a' b b' c c' : ℕ} → a ≡ a' → b ≡ b' → c ≡ c'
-            → _≡_ {A = Player} (record { last = a; h = p .h; position = b; age = c; offsets = p .offsets; m = p .m; n = p .n; table = p .table })
-            (record { last = a'; h = p .h; position = b'; age = c'; offsets = p .offsets; m = p .m; n = p .n; table = p .table })
-        same x y z = cc
-
-    -- and leaves it so
+    -- a step that is in time moves the record on
     pub moved-step : afterStep (moved p s) (tickAfter (moved p s .last) e) ≡ moved p (s + e)
     unfolding afterStep
-    moved-step = rw (moved-taken, moved-advanced)
+    moved-step = rw (moved-on u (p .last) s e l)
 
     -- and answers for that slot
     pub moved-answer : stepped (moved p s) (tickAfter (moved p s .last) e) ≡ record { verdict = 0; cells = cellsOf (moved p (s + e)); missed = e - 1 }
-    unfolding stepped
-    moved-answer = rw (moved-taken, moved-advanced, elapsed-is (p .last + s) e (omega arith))
+    unfolding stepped afterStep
+    moved-answer = rw (moved-on u (p .last) s e l)
 
   -- a record moved on by no slot is as it was
   pub moved-none : p .last < 2 ^ 32 → moved p 0 ≡ p
@@ -113,7 +75,7 @@ module _ {m : ℕ} {ts : List Task} (s : SoundList m ts) (table : List ℕ) (τ 
   made = recordOf m ts table τ
 
   -- the record of a start is not spoilt
-  pub made-unspoilt : Unspoilt made
+  pub made-unspoilt : InRange made
   unfolding recordOf
   made-unspoilt = record {
     some-slot = s .some-slot;

@@ -1,10 +1,10 @@
--- `player::cell_of` meets its contract: its offset is the task's.
+-- `clock::cell_of` meets its contract: its offset is the task's.
 -- Assumes nothing.
 use mathlib.Core.Path.{ap, _∙_}
 use borrow.Author.Needs.{needs}
-use Rattle.player.specs.Player.{shownCell}
-use Rattle.player.proofs.cell_of.Statement.{statement}
-use Rattle.player.proofs.cell_of.Tie as tie
+use Rattle.clock.specs.Clock.{shownCell}
+use Rattle.clock.proofs.cell_of.Statement.{statement}
+use Rattle.clock.proofs.cell_of.Tie as tie
 
 returns : tie.Need-returns
 returns c =

@@ -1,0 +1,48 @@
+-- What a call of each public function ensures, as its contract says, and that it leaves one answer.
+-- Assumes nothing.
+use Prim.Native.Nat.{ℕ}
+use mathlib.Core.Path.{_≡_, refl}
+use mathlib.Core.List.{List, [], _∷_}
+use Rattle.laws.proofs.Only.{Says, only}
+use Rattle.clock.specs.declared.Next.{Next}
+use Rattle.clock.specs.declared.Shown.{Shown}
+use Rattle.clock.specs.Clock.{staysOf, nextOf, answerOf}
+use Rattle.clock.proofs.stays as stays
+use Rattle.clock.proofs.next_of as next-of
+use Rattle.clock.proofs.answer as answer
+
+-- ---- stays
+abbrev pub Stays : ℕ → ℕ → ℕ → ℕ → Next → Type 0
+Stays last position age verdict r = r ≡ staysOf last position age verdict
+
+stays-says : (κs last position age verdict last′ position′ age′ verdict′ r : _)
+    → Says (λ M 𝓤 H A mem run. stays.ensures-1 𝓤 H κs A mem run last position age verdict last′ position′ age′ verdict′ r) (Stays last position age verdict r)
+stays-says κs last position age verdict last′ position′ age′ verdict′ r M 𝓤 H A mem run = refl
+
+pub stays-only : (last position age verdict : ℕ) (r r′ : Next) → Stays last position age verdict r → Stays last position age verdict r′ → r ≡ r′
+stays-only last position age verdict r r′ = only
+
+-- ---- next_of
+abbrev pub NextOf : ℕ → ℕ → ℕ → ℕ → ℕ → ℕ → ℕ → Next → Type 0
+NextOf last h position age m n tick r = r ≡ nextOf last h position age m n tick
+
+next-of-says : (κs last h position age m n tick last′ h′ position′ age′ m′ n′ tick′ r : _)
+    → Says (λ M 𝓤 H A mem run. next-of.ensures-1 𝓤 H κs A mem run last h position age m n tick last′ h′ position′ age′ m′ n′ tick′ r)
+    (NextOf last h position age m n tick r)
+next-of-says κs last h position age m n tick last′ h′ position′ age′ m′ n′ tick′ r M 𝓤 H A mem run = refl
+
+pub next-of-only : (last h position age m n tick : ℕ) (r r′ : Next) → NextOf last h position age m n tick r → NextOf last h position age m n tick r′ → r ≡ r′
+next-of-only last h position age m n tick r r′ = only
+
+-- ---- answer
+abbrev pub Answer : Next → ℕ → ℕ → List ℕ → ℕ → ℕ → ℕ → ℕ → Shown → Type 0
+Answer next m n offsets a b c d r = r ≡ answerOf next m n offsets (a ∷ b ∷ c ∷ d ∷ [])
+
+answer-says : (κs next m n offsets a b c d next′ m′ n′ offsets′ a′ b′ c′ d′ r : _)
+    → Says (λ M 𝓤 H A mem run. answer.ensures-1 𝓤 H κs A mem run next m n offsets a b c d next′ m′ n′ offsets′ a′ b′ c′ d′ r)
+    (Answer next m n offsets a b c d r)
+answer-says κs next m n offsets a b c d next′ m′ n′ offsets′ a′ b′ c′ d′ r M 𝓤 H A mem run = refl
+
+pub answer-only : (next : Next) (m n : ℕ) (offsets : List ℕ) (a b c d : ℕ) (r r′ : Shown)
+    → Answer next m n offsets a b c d r → Answer next m n offsets a b c d r′ → r ≡ r′
+answer-only next m n offsets a b c d r r′ = only

@@ -1,0 +1,189 @@
+// The player's clock: what a step works out of the record's numbers, and what is shown.
+ghost use mathlib.Core.Path.{_≡_};
+ghost use Prim.Native.Nat.{_+_, _-_, _^_, _<_, min, pred};
+ghost use mathlib.Core.List.{[], _∷_};
+ghost use Rattle.laws.specs.Lists.{nth};
+ghost use Rattle.clock.specs.Clock.{elapsedOf, stepRefusal, staysOf, nextOf, shownCell, cellOf, answerOf};
+use tasks::MAX_CORES;
+use tasks::MAX_SLOTS;
+use tasks::MAX_TASKS;
+
+// What a start or a step answers: four cells, one a core, and the slots missed.
+pub struct Shown {
+    pub verdict: u8,
+    pub cells: [u8; 4],
+    pub missed: u32,
+}
+
+// What a step works out of the record's numbers: what it stores, the slots missed, where the slot's cells begin in the table, and its verdict.
+pub struct Next {
+    pub last: u32,
+    pub missed: u32,
+    pub at: usize,
+    pub position: u16,
+    pub age: u16,
+    pub verdict: u8,
+}
+
+// The verdicts of a step, by 01's numbers.
+pub const SPOILT: u8 = 12;
+
+pub const PAST: u8 = 15;
+
+// The most that age is.
+const MAX_AGE: u16 = 1024;
+
+// The first elapsed number that is of the past: 2^31.
+const FIRST_PAST: u32 = 2147483648;
+
+// The new tick less the last, modulo 2^32.
+fn elapsed(tick: u32, last: u32) -> u32
+    ensures { λ r. ⌜ r ≡ elapsedOf tick last ⌝ }
+{
+    std::num::wrapping_sub_u32(tick, last)
+}
+
+// Refusal 12, then 15; 0 if there is none. H is not 0, since position is below it.
+fn step_refusal(last: u32, h: u16, position: u16, age: u16, m: u8, n: u8, tick: u32) -> u8
+    ensures { λ r. ⌜ r ≡ stepRefusal last h position age m n tick ⌝ }
+{
+    if MAX_SLOTS < h {
+        return SPOILT;
+    }
+    if m == 0 {
+        return SPOILT;
+    }
+    if MAX_CORES < m {
+        return SPOILT;
+    }
+    if n == 0 {
+        return SPOILT;
+    }
+    if MAX_TASKS < n {
+        return SPOILT;
+    }
+    if h <= position {
+        return SPOILT;
+    }
+    if MAX_AGE < age {
+        return SPOILT;
+    }
+    if FIRST_PAST <= elapsed(tick, last) {
+        return PAST;
+    }
+    0
+}
+
+// Age advanced by the elapsed number, but not past 1024.
+fn older(age: u16, elapsed: u32) -> u16
+    requires { ⌜ elapsed < 2 ^ 31 ⌝ }
+    ensures { λ r. ⌜ r ≡ min (age + elapsed) 1024 ⌝ }
+{
+    let sum = age as u32 + elapsed;
+    if (MAX_AGE as u32) < sum {
+        return MAX_AGE;
+    }
+    sum as u16
+}
+
+// The slots missed: elapsed - 1, and 0 if elapsed is 0.
+fn missed(elapsed: u32) -> u32
+    ensures { λ r. ⌜ r ≡ elapsed - 1 ⌝ }
+{
+    if elapsed == 0 { 0 } else { elapsed - 1 }
+}
+
+// What a refused step works out: the record stays as it was.
+pub fn stays(last: u32, position: u16, age: u16, verdict: u8) -> Next
+    ensures { λ r. ⌜ r ≡ staysOf last position age verdict ⌝ }
+{
+    Next {
+        last,
+        missed: 0,
+        at: 0,
+        position,
+        age,
+        verdict,
+    }
+}
+
+// All that a step works out of the record's numbers.
+pub fn next_of(last: u32, h: u16, position: u16, age: u16, m: u8, n: u8, tick: u32) -> Next
+    ensures { λ r. ⌜ r ≡ nextOf last h position age m n tick ⌝ }
+{
+    let refusal = step_refusal(last, h, position, age, m, n, tick);
+    if refusal != 0 {
+        return stays(last, position, age, refusal);
+    }
+    let e = elapsed(tick, last);
+    let slot = (position as u32 + e) % (h as u32);
+    let at = slot as usize * m as usize;
+    let moved = slot as u16;
+    Next {
+        last: tick,
+        missed: missed(e),
+        at,
+        position: moved,
+        age: older(age, e),
+        verdict: refusal,
+    }
+}
+
+// A cell as it is shown on a core.
+fn shown_cell(m: u8, n: u8, age: u16, offset: u16, core: u8, cell: u8) -> u8
+    ensures { λ r. ⌜ r ≡ shownCell m n age offset core cell ⌝ }
+{
+    if n < cell {
+        return 0;
+    }
+    if age < offset {
+        return 0;
+    }
+    if m <= core {
+        return 0;
+    }
+    cell
+}
+
+// The offset of the task in a cell. A cell above 16 has none.
+fn offset_of(offsets: [u16; 16], cell: u8) -> u16
+    ensures { λ r. ⌜ r ≡ nth offsets (pred cell) ⌝ }
+{
+    let place = if cell == 0 { 0 } else { cell - 1 };
+    if MAX_TASKS <= place {
+        return 0;
+    }
+    offsets[place as usize]
+}
+
+// A cell as it is shown on a core, with its task's offset among all.
+fn cell_of(m: u8, n: u8, age: u16, offsets: [u16; 16], core: u8, cell: u8) -> u8
+    ensures { λ r. ⌜ r ≡ cellOf m n age offsets core cell ⌝ }
+{
+    shown_cell(m, n, age, offset_of(offsets, cell), core, cell)
+}
+
+// The answer to what a step works out, with the four cells of the table; a refused one shows four 0 cells.
+pub fn answer(next: Next, m: u8, n: u8, offsets: [u16; 16], a: u8, b: u8, c: u8, d: u8) -> Shown
+    ensures { λ r. ⌜ r ≡ answerOf next m n offsets (a ∷ b ∷ c ∷ d ∷ []) ⌝ }
+{
+    let verdict = next.verdict;
+    if verdict != 0 {
+        return Shown {
+            verdict,
+            cells: [0; 4],
+            missed: 0,
+        };
+    }
+    let age = next.age;
+    Shown {
+        verdict,
+        cells: [
+            cell_of(m, n, age, offsets, 0, a),
+            cell_of(m, n, age, offsets, 1, b),
+            cell_of(m, n, age, offsets, 2, c),
+            cell_of(m, n, age, offsets, 3, d),
+        ],
+        missed: next.missed,
+    }
+}
