@@ -4,16 +4,15 @@ use Prim.Native.Nat.{ℕ, _+_, _*_, _-_, _/_, _%_, _≤_, _<_}
 use mathlib.Core.Path.{_≡_, refl, sym, _∙_}
 use mathlib.Core.Logic.{_≢_}
 use mathlib.Core.Bool.{Bool, true, false, _&&_}
-use mathlib.Core.List.{List, [], _∷_}
+use mathlib.Core.List.{List}
 use native.Mathlib.Omega.{arith}
 use native.Mathlib.Decide.{ℕ-discrete}
 use native.Mathlib.Nat.{mod-lt, mul-le-mul-right}
-use lib.Dec.{T, leb, ltb, eqb, leb→le, ltb→lt, le→leb, lt→ltb}
+use lib.Dec.{eqb, ltb→lt}
 use lib.ListN.{length}
 use lib.Arith.{digits-div, digits-mod}
 use Rattle.laws.specs.Sum.{gate, sum}
-use Rattle.laws.proofs.SumLaws.{gate-yes, gate-no, gate-ne, gate-zero, sum-ext, sum-gate, sum-nested, sum-stays}
-use Rattle.laws.proofs.TestLaws.{every-holds, holds-every}
+use Rattle.laws.proofs.SumLaws.{gate-ne, sum-ext, sum-gate, sum-nested, sum-stays}
 use Rattle.tasks.specs.declared.Task.{Task}
 use Rattle.tasks.specs.Task.{rate, task}
 use Rattle.tasks.specs.Refusal.{tableLength}
@@ -22,38 +21,8 @@ use Rattle.tasks.specs.Instance.{instanceOf}
 use Rattle.tasks.proofs.WindowLaws.{work-at, open-window}
 use Rattle.tasks.proofs.SoundLaws.{SoundList, length-whole, sound-cyclic}
 use Rattle.table.specs.Table.{share, done, Valid}
-use Rattle.clock.specs.Clock.{shownCell}
+use Rattle.clock.proofs.ShownLaws.{shown-own, shown-is, shown-beyond}
 use Rattle.player.specs.Played.{shownAs}
-
--- ---- a cell that is shown
--- the tests of a cell
-abbrev tests : ℕ → ℕ → ℕ → ℕ → ℕ → ℕ → List Bool
-tests m n age offset j v = leb v n ∷ leb offset age ∷ ltb j m ∷ []
-
--- a cell that passes its tests is shown as it stands
-pub shown-own : (m n age offset j v : ℕ) → v ≤ n → offset ≤ age → j < m → shownCell m n age offset j v ≡ v
-shown-own m n age offset j v a b c = gate-yes _ v (holds-every (tests m n age offset j v) (le→leb v n a, (le→leb offset age b, (lt→ltb j m c, tt))))
-
--- a gate that lets i through, which is not 0
-through : (b : Bool) (v i : ℕ) → i ≢ 0 → gate b v ≡ i → T b × (v ≡ i)
-unfolding gate
-through true v i x e = (tt, e)
-through false v i x e = absurd (x (sym e))
-
--- a cell that is shown as i, which is not idle, is i, and passed its tests
-pub shown-is : (m n age offset j v i : ℕ) → i ≢ 0 → shownCell m n age offset j v ≡ i → (v ≡ i) × (v ≤ n) × (offset ≤ age) × (j < m)
-shown-is m n age offset j v i x e =
-    let h = through _ v i x e in
-    let t = every-holds (tests m n age offset j v) (h .0) in
-    (h .1, leb→le v n (t .0), leb→le offset age (t .1 .0), ltb→lt j m (t .1 .1 .0))
-
--- a cell on a core that the board lacks is shown as 0
-pub shown-beyond : (m n age offset j v : ℕ) → m ≤ j → shownCell m n age offset j v ≡ 0
-shown-beyond m n age offset j v l = gate-no _ v (λ t. let k : j < m = ltb→lt j m (every-holds (tests m n age offset j v) t .1 .1 .0) in omega arith)
-
--- and so is an idle cell
-pub shown-idle : (m n age offset j : ℕ) → shownCell m n age offset j 0 ≡ 0
-shown-idle m n age offset j = gate-zero _
 
 -- ---- the work of a job, slot by slot
 -- two gates, the second outermost

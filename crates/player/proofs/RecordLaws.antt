@@ -7,7 +7,6 @@ use mathlib.Core.List.{List}
 use native.Mathlib.Omega.{arith}
 use native.Mathlib.Nat.{mod-eq-of-lt, mul-le-mul, add-zero, zero-add}
 use lib.ListN.{length}
-use borrow.Author.Tests.{le-leb, lt-leb}
 use Rattle.laws.specs.Lists.{nth}
 use Rattle.laws.proofs.SumLaws.{lt-or-ge}
 use Rattle.laws.proofs.ListLaws.{tab-same}
@@ -16,13 +15,14 @@ use Rattle.tasks.specs.Task.{task}
 use Rattle.tasks.specs.Refusal.{tableLength}
 use Rattle.tasks.proofs.SoundLaws.{SoundList}
 use Rattle.clock.specs.Clock.{shownCell, cellOf}
+use Rattle.clock.proofs.ShownLaws.{shown-beyond, shown-idle, age-tells}
 use Rattle.clock.proofs.StepLaws.{Unspoilt}
 use Rattle.clock.proofs.ClockLaws.{tickAfter, moved-on}
 use Rattle.player.specs.declared.Player.{Player}
 use Rattle.player.specs.Player.{cellsOf, stepped, afterStep, recordOf}
 use Rattle.player.specs.Played.{shownAs, shownAt}
 use Rattle.player.proofs.StartLaws.{padded-at}
-use Rattle.player.proofs.PlayLaws.{shown-beyond, shown-idle, cell-lt}
+use Rattle.player.proofs.PlayLaws.{cell-lt}
 
 -- ---- the record moved on
 -- its numbers are in range
@@ -63,13 +63,6 @@ module _ (p : Player) (u : InRange p) where
       same x y z = rw (x, y, z)
 
 -- ---- the cells of a start's record
--- the age tells of an offset up to 1024 what the time tells
-age-tells : (m n s offset j v : ℕ) → offset ≤ 1024 → shownCell m n (min s 1024) offset j v ≡ shownCell m n s offset j v
-age-tells m n s offset j v h = ⊎-elim
-    (λ l. rw (lt-leb offset (min s 1024) (omega arith), lt-leb offset s l))
-    (λ l. rw (le-leb offset (min s 1024) (omega arith), le-leb offset s l))
-    (lt-or-ge s offset)
-
 module _ {m : ℕ} {ts : List Task} (s : SoundList m ts) (table : List ℕ) (τ : ℕ) where
   abbrev made : Player
   made = recordOf m ts table τ
