@@ -109,10 +109,10 @@ module _ (last h position age m n tick : ℕ) where
       (passes-unspoilt h position age m n (t .0), rw is (ltb→lt _ _ (t .1)))
 
   -- what a refused step works out
-  pub next-refused : (v : ℕ) → v ≡ refusal → v ≢ 0 → staysOf last position age v ≡ nextOf last h position age m n tick
+  pub next-refused : (v : ℕ) (x : Next) → x ≡ staysOf last position age v → v ≡ refusal → v ≢ 0 → x ≡ nextOf last h position age m n tick
   unfolding nextOf
-  next-refused zero e ne = absurd (ne refl)
-  next-refused (suc x) e ne = rw (← e)
+  next-refused zero x s e ne = absurd (ne refl)
+  next-refused (suc v) x s e ne = rw (← e) s
 
   -- what any other works out
   pub next-taken : (v e missed older : ℕ) → v ≡ refusal → v ≡ 0 → e ≡ elapsedOf tick last → missed ≡ e - 1 → older ≡ min (age + e) 1024

@@ -1,7 +1,6 @@
 -- `clock::next_of` meets its contract: a step that is not refused has numbers in range, so position + elapsed fits, and the place of its cells too.
 -- Assumes nothing.
 use Prim.Native.Nat.{_<_, _^_}
-use mathlib.Core.Path.{_∙_}
 use native.Mathlib.Omega.{arith}
 use borrow.Author.Needs.{needs}
 use Rattle.clock.proofs.StepLaws.{Unspoilt, refused-not, next-refused, next-taken, slot-below, cells-below}
@@ -13,7 +12,7 @@ in-time : (c : tie.After-elapsed) → let a = c .before .before .before .args in
 in-time c = refused-not _ _ _ _ _ _ _ _ _ (c .before .before .step-refusal .ensures) (omega (arith, c .before .if1 .left)) (c .elapsed .ensures)
 
 returns : tie.Need-returns
-returns c = c .stays .ensures ∙ next-refused _ _ _ _ _ _ _ _ (c .before .before .step-refusal .ensures) (λ z. omega (arith, c .before .if1 .taken, z))
+returns c = next-refused _ _ _ _ _ _ _ _ _ (c .stays .ensures) (c .before .before .step-refusal .ensures) (λ z. omega (arith, c .before .if1 .taken, z))
 
 add-slot : tie.Need-add-slot
 add-slot c = let k = in-time c in omega arith
