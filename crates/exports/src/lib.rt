@@ -6,7 +6,7 @@ ghost use Rattle.table.specs.Fault.{check as checkOf};
 ghost use Rattle.rules.specs.Search.{search as searchOf};
 ghost use lib.ListN.{length};
 ghost use lib.Dec.{leb};
-ghost use Rattle.frames.specs.Write.{Written};
+ghost use Rattle.answer.specs.Write.{Written};
 ghost use Rattle.player.specs.Player.{stepped, afterStep, started, afterStart};
 ghost use Rattle.planner.specs.Answer.{answerTo};
 ghost use Rattle.exports.specs.Packed.{listed, SearchedAs, packedAs, checkedAs, ToldAs};

@@ -1,4 +1,4 @@
--- 01's worked example, read and written, and one short text for each file refusal.
+-- 01's worked example as it is read, and one short text for each file refusal.
 -- Assumes nothing.
 use Prim.Native.Nat.{ℕ}
 use Prim.Native.Char.{code}
@@ -6,15 +6,13 @@ use Prim.Native.String.{String, len, charAt}
 use mathlib.Core.Path.{_≡_, refl}
 use mathlib.Core.List.{List, [], _∷_, map}
 use lib.ListN.{replicate}
-use Rattle.laws.specs.Sum.{gate}
 use Rattle.laws.specs.Lists.{tab}
 use Rattle.tasks.specs.declared.Task.{Task}
 use Rattle.tasks.specs.Refusal.{within, unless}
 use Rattle.lines.specs.Frame.{sortOf, two, four}
-use Rattle.lines.specs.Lines.{isDigit, digitOf, pairs, bytesOf, before, lines, hexOf, digits, lineOf}
+use Rattle.lines.specs.Lines.{isDigit, digitOf, pairs, bytesOf, before, lines}
 use Rattle.lines.specs.Refusal.{lengthRefusal, frameRefusal, lineRefusal}
 use Rattle.frames.specs.Read.{Read, refused, problem, mayFollow, rightNumber, inPlace, taskOf, taken, placeRefusal, readLines, readWithin, readProblem}
-use Rattle.frames.specs.Write.{verdictFrame, cellAt, slotFrame, slotLines, writeAnswer}
 
 -- the bytes of a text
 bytes : String → List ℕ
@@ -25,11 +23,6 @@ bytes s = tab (len s) (λ i. code (charAt s i))
 reading : List ℕ → Read
 unfolding tab bytes within unless sortOf two four isDigit digitOf pairs bytesOf before lines mayFollow rightNumber inPlace taskOf taken lengthRefusal frameRefusal lineRefusal placeRefusal readLines readWithin
 reading text = readProblem text
-
--- what is written: verdict, tries, slots, cores and table
-writing : ℕ → ℕ → ℕ → ℕ → List ℕ → List ℕ
-unfolding gate tab bytes hexOf digits lineOf verdictFrame cellAt slotFrame slotLines writeAnswer
-writing verdict tries H m table = writeAnswer verdict tries H m table
 
 -- a task of work C, due and anew every three slots, of rate 1 on two cores
 equal : ℕ → Task
@@ -87,12 +80,3 @@ readings =
 read-cases : map (λ c. reading (c .0)) readings ≡ map (λ c. c .1) readings
 unfolding reading bytes equal example readings
 read-cases = refl
-
--- the table of the example, and a refusal
-example-written : writing 0 12 3 2 (1 ∷ 3 ∷ 2 ∷ 3 ∷ 2 ∷ 3 ∷ []) ≡ bytes "05000000000C\n06000001030000\n06000102030000\n06000202030000\n07\n"
-unfolding writing bytes
-example-written = refl
-
-refusal-written : writing 24 0 0 0 [] ≡ bytes "051800000000\n07\n"
-unfolding writing bytes
-refusal-written = refl

@@ -3,5 +3,4 @@ mod PlaceLaws
 pub mod ProblemLaws
 mod ReachLaws
 mod TaskLaws
-mod WriteLaws
 pub mod Calls

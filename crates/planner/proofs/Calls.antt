@@ -19,8 +19,8 @@ use Rattle.checker.proofs.Calls.{told-only as checked-only}
 use Rattle.player.specs.declared.Player.{Player}
 use Rattle.clock.specs.declared.Shown.{Shown}
 use Rattle.player.specs.Player.{started, afterStart}
-use Rattle.frames.specs.Write.{Written}
-use Rattle.frames.proofs.Calls.{written-only}
+use Rattle.answer.specs.Write.{Written}
+use Rattle.answer.proofs.Calls.{written-only}
 use Rattle.planner.specs.Answer.{answerTo}
 use Rattle.planner.proofs.plan as plan
 use Rattle.planner.proofs.check as the-check

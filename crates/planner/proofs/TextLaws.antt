@@ -24,7 +24,7 @@ use Rattle.tasks.proofs.SoundLaws.{next-none, sound-list, soundness-sound, soun
 use Rattle.rules.specs.Search.{Searched, toldUnless, searchRefusal, search}
 use Rattle.frames.specs.declared.Problem.{Problem}
 use Rattle.frames.specs.Read.{Read, refused, problem, readProblem, blankOf, told}
-use Rattle.frames.specs.Write.{slotLines, writeAnswer, canWrite, Written}
+use Rattle.answer.specs.Write.{slotLines, writeAnswer, canWrite, Written}
 use Rattle.frames.proofs.ProblemLaws.{read-held, read-refused}
 use Rattle.search.specs.declared.Answer.{Answer}
 use Rattle.search.specs.Board.{toldOf}

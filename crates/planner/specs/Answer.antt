@@ -9,7 +9,7 @@ use Rattle.tasks.specs.declared.Task.{Task}
 use Rattle.tasks.specs.Refusal.{refusal, tableLength}
 use Rattle.rules.specs.Search.{Searched, search}
 use Rattle.frames.specs.Read.{Read, refused, problem, readProblem}
-use Rattle.frames.specs.Write.{writeAnswer}
+use Rattle.answer.specs.Write.{writeAnswer}
 use Rattle.planner.specs.declared.Size.{Size}
 
 -- the slots and the cores of a sound list's table, else none

@@ -11,7 +11,7 @@ ghost use Rattle.checker.specs.Checks.{toldOf as checkedAs};
 ghost use Rattle.player.specs.Player.{started, afterStart};
 ghost use lib.ListN.{length};
 ghost use lib.Dec.{leb};
-ghost use Rattle.frames.specs.Write.{Written};
+ghost use Rattle.answer.specs.Write.{Written};
 ghost use Rattle.planner.specs.Answer.{sizeOf, answerTo};
 use checker::Verdict;
 use clock::Shown;
@@ -113,12 +113,12 @@ pub fn plan_text(text: &[u8], out: &mut [u8]) -> usize
     let mut table = [0; 4096];
     let problem = frames::read_problem(text);
     if problem.refusal != 0 {
-        return frames::write_answer(problem.refusal, 0, 0, 0, &table, out);
+        return answer::write_answer(problem.refusal, 0, 0, 0, &table, out);
     }
     let list = problem.list;
     let size = table_size(list, problem.m);
     let answer = search::search(list, problem.m, problem.engine, problem.limit, &mut table);
-    frames::write_answer(
+    answer::write_answer(
         answer.verdict,
         answer.tries,
         size.slots,

@@ -1,4 +1,4 @@
--- `frames::put_slots` meets its contract. The loop's invariant: the lines of the slots passed stand from `at` on. The measure is what is left of the slots.
+-- `answer::put_slots` meets its contract. The loop's invariant: the lines of the slots passed stand from `at` on. The measure is what is left of the slots.
 -- Assumes nothing.
 use Prim.Native.Nat.{_+_, _*_, _-_, _≤_}
 use Rattle.laws.specs.Lists.{nth}
@@ -7,10 +7,10 @@ use native.Mathlib.Omega.{arith}
 use borrow.Author.Needs.{needs}
 use lib.ListN.{length}
 use lib.Seq.{sets, length-sets}
-use Rattle.frames.specs.Write.{slotFrame, slotLines}
-use Rattle.frames.proofs.WriteLaws.{cells-within, frame-fits, frame-next, one-slot}
-use Rattle.frames.proofs.put_slots.Statement.{statement}
-use Rattle.frames.proofs.put_slots.Tie as tie
+use Rattle.answer.specs.Write.{slotFrame, slotLines}
+use Rattle.answer.proofs.WriteLaws.{cells-within, frame-fits, frame-next, one-slot}
+use Rattle.answer.proofs.put_slots.Statement.{statement}
+use Rattle.answer.proofs.put_slots.Tie as tie
 
 abbrev Inv-loop : tie.InvT-loop
 Inv-loop out₀ at slots m table next₀ t₀ out next t = (t ≤ slots) × (next ≡ at + t * 15) × (length out ≡ length out₀) × (out ≡ sets out₀ at (slotLines t m table))

@@ -1,9 +1,9 @@
--- `frames::slot_frame` meets its contract: the slot high byte first, and its four cells.
+-- `answer::slot_frame` meets its contract: the slot high byte first, and its four cells.
 -- Assumes nothing.
 use borrow.Author.Needs.{needs}
-use Rattle.frames.specs.Write.{slotFrame}
-use Rattle.frames.proofs.slot_frame.Statement.{statement}
-use Rattle.frames.proofs.slot_frame.Tie as tie
+use Rattle.answer.specs.Write.{slotFrame}
+use Rattle.answer.proofs.slot_frame.Statement.{statement}
+use Rattle.answer.proofs.slot_frame.Tie as tie
 
 returns : tie.Need-returns
 unfolding slotFrame

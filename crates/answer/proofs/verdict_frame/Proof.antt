@@ -1,10 +1,10 @@
--- `frames::verdict_frame` meets its contract: the tries high byte first, filled up with 0.
+-- `answer::verdict_frame` meets its contract: the tries high byte first, filled up with 0.
 -- Assumes nothing.
 use mathlib.Core.Path.{refl}
-use Rattle.frames.specs.Write.{verdictFrame}
+use Rattle.answer.specs.Write.{verdictFrame}
 use borrow.Author.Needs.{needs}
-use Rattle.frames.proofs.verdict_frame.Statement.{statement}
-use Rattle.frames.proofs.verdict_frame.Tie as tie
+use Rattle.answer.proofs.verdict_frame.Statement.{statement}
+use Rattle.answer.proofs.verdict_frame.Tie as tie
 
 returns : tie.Need-returns
 unfolding verdictFrame

@@ -1,11 +1,11 @@
--- `frames::cell_at` meets its contract: a cell of the table, or 0 beyond the cores.
+-- `answer::cell_at` meets its contract: a cell of the table, or 0 beyond the cores.
 -- Assumes nothing.
 use mathlib.Core.Path.{sym}
 use borrow.Author.Needs.{needs}
 use Rattle.laws.proofs.SumLaws.{gate-lt, gate-ge}
-use Rattle.frames.specs.Write.{cellAt}
-use Rattle.frames.proofs.cell_at.Statement.{statement}
-use Rattle.frames.proofs.cell_at.Tie as tie
+use Rattle.answer.specs.Write.{cellAt}
+use Rattle.answer.proofs.cell_at.Statement.{statement}
+use Rattle.answer.proofs.cell_at.Tie as tie
 
 returns : tie.Need-returns
 unfolding cellAt

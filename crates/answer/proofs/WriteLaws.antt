@@ -16,7 +16,7 @@ use Rattle.laws.proofs.TestLaws.{every-holds}
 use Rattle.lines.specs.Frame.{lengthOfKind}
 use Rattle.lines.specs.Lines.{digits, lineOf}
 use Rattle.lines.proofs.ListLaws.{sets-append}
-use Rattle.frames.specs.Write.{verdictFrame, slotFrame, slotLines, writeAnswer, canWrite, Written}
+use Rattle.answer.specs.Write.{verdictFrame, slotFrame, slotLines, writeAnswer, canWrite, Written}
 
 -- the line of a slot has 15 bytes
 slot-length : (m : ℕ) (table : List ℕ) (t : ℕ) → length (lineOf (slotFrame m table t)) ≡ 15

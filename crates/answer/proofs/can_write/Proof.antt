@@ -1,13 +1,13 @@
--- `frames::can_write` meets its contract: its tests are the definition's, one by one.
+-- `answer::can_write` meets its contract: its tests are the definition's, one by one.
 -- Assumes nothing.
 use mathlib.Core.Path.{sym}
 use mathlib.Core.Bool.{and-true}
 use native.Mathlib.Nat.{mul-le-mul}
 use native.Mathlib.Omega.{arith}
 use borrow.Author.Tests.{le-leb, lt-leb}
-use Rattle.frames.specs.Write.{canWrite}
-use Rattle.frames.proofs.can_write.Statement.{statement}
-use Rattle.frames.proofs.can_write.Tie as tie
+use Rattle.answer.specs.Write.{canWrite}
+use Rattle.answer.proofs.can_write.Statement.{statement}
+use Rattle.answer.proofs.can_write.Tie as tie
 
 returns : tie.Need-returns
 unfolding canWrite

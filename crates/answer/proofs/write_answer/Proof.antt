@@ -1,4 +1,4 @@
--- `frames::write_answer` meets its contract: 05, the slots for verdict 0 and 07 stand one behind the other.
+-- `answer::write_answer` meets its contract: 05, the slots for verdict 0 and 07 stand one behind the other.
 -- Assumes nothing.
 use Prim.Native.Nat.{_*_, _≤_}
 use mathlib.Core.Path.{_≡_, sym, ap, _∙_}
@@ -13,10 +13,10 @@ use Rattle.laws.specs.Sum.{gate}
 use Rattle.laws.specs.Lists.{nth}
 use Rattle.laws.proofs.SumLaws.{gate-eq, gate-ne}
 use Rattle.lines.specs.Lines.{lineOf}
-use Rattle.frames.specs.Write.{verdictFrame}
-use Rattle.frames.proofs.WriteLaws.{frame-fits, frame-next, can-is, shown-fits, not-written, verdict-line, answer-written}
-use Rattle.frames.proofs.write_answer.Statement.{statement}
-use Rattle.frames.proofs.write_answer.Tie as tie
+use Rattle.answer.specs.Write.{verdictFrame}
+use Rattle.answer.proofs.WriteLaws.{frame-fits, frame-next, can-is, shown-fits, not-written, verdict-line, answer-written}
+use Rattle.answer.proofs.write_answer.Statement.{statement}
+use Rattle.answer.proofs.write_answer.Tie as tie
 
 -- what the test of the arguments has told
 can : (c : tie.Else1) → let a = c .before .before .before .before .args in

@@ -1,0 +1,3 @@
+mod Cases
+mod WriteLaws
+pub mod Calls
