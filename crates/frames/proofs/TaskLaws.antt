@@ -1,6 +1,6 @@
 -- What each frame adds to what the frames before it have said.
 -- Assumes nothing.
-use Prim.Native.Nat.{ℕ, _+_, _*_, _<_}
+use Prim.Native.Nat.{ℕ, _<_}
 use mathlib.Core.Path.{_≡_, refl, ap, _∙_}
 use mathlib.Core.Logic.{_≢_}
 use mathlib.Core.List.{List, [], _∷_, _++_}
@@ -34,7 +34,7 @@ module _ (s : State) (p : Problem) (frame f : List ℕ) (e : p ≡ heldBy s) (g 
       let more = h ∙ ap (added (p .list)) t ∙ task-more (s .tasks) (p .list) last frame (ap (λ x. x .list) e) few in
       rw (more, e, q, g, kind)
 
-  pub limit-said : (limit : ℕ) → nth frame 0 ≡ 4 → limit ≡ (nth frame 2 * 256 + nth frame 3) * 65536 + (nth frame 4 * 256 + nth frame 5)
+  pub limit-said : (limit : ℕ) → nth frame 0 ≡ 4 → limit ≡ four frame 2
       → _≡_ {A = Problem} record { refusal = p .refusal; m = p .m; list = p .list; engine = nth frame 1; limit = limit } (heldBy (taken s f))
   unfolding taken filled tab four two told
   limit-said limit k h = let kind : nth f 0 ≡ 4 = rw g at k in rw (e, h, g, kind)

@@ -1,9 +1,9 @@
 // Frames: the reader of a problem's text.
 ghost use mathlib.Core.Path.{_≡_};
 ghost use mathlib.Core.List.{List};
-ghost use Prim.Native.Nat.{ℕ, _+_, _*_, _<_};
+ghost use Prim.Native.Nat.{ℕ, _+_, _*_, _≤_, _<_};
 ghost use Rattle.laws.specs.Lists.{nth};
-ghost use Rattle.lines.specs.Frame.{filled};
+ghost use Rattle.lines.specs.Frame.{two, four, filled};
 ghost use Rattle.lines.specs.Lines.{lines};
 ghost use Rattle.frames.specs.Read.{State, start, mayFollow, rightNumber, inPlace, taskOf, taken, readLines, readProblem, blankOf, heldBy, told};
 use lines::CORES;
@@ -38,11 +38,19 @@ fn two_bytes(high: u8, low: u8) -> u16
     (high as u16) * 256 + (low as u16)
 }
 
-// A number of four bytes, high byte first.
-fn four_bytes(a: u8, b: u8, c: u8, d: u8) -> u32
-    ensures { λ r. ⌜ r ≡ (a * 256 + b) * 65536 + (c * 256 + d) ⌝ }
+// The one that stands at a place of a frame.
+fn number_at(frame: [u8; 10], at: usize) -> u16
+    requires { ⌜ at ≤ 8 ⌝ }
+    ensures { λ r. ⌜ r ≡ two frame at ⌝ }
 {
-    (two_bytes(a, b) as u32) * 65536 + (two_bytes(c, d) as u32)
+    two_bytes(frame[at], frame[at + 1])
+}
+
+// The limit of an 04.
+fn limit_of(frame: [u8; 10]) -> u32
+    ensures { λ r. ⌜ r ≡ four frame 2 ⌝ }
+{
+    (number_at(frame, 2) as u32) * 65536 + (number_at(frame, 4) as u32)
 }
 
 // Whether a frame of a kind may stand behind one of the last kind, 0 at the start.
@@ -100,10 +108,10 @@ fn task_of(last: [u8; 10], frame: [u8; 10]) -> Task
     ensures { λ r. ⌜ r ≡ taskOf last frame ⌝ }
 {
     Task {
-        offset: Slots(two_bytes(last[2], last[3])),
-        work: Work(two_bytes(last[4], last[5])),
-        deadline: Slots(two_bytes(last[6], last[7])),
-        period: Slots(two_bytes(last[8], last[9])),
+        offset: Slots(number_at(last, 2)),
+        work: Work(number_at(last, 4)),
+        deadline: Slots(number_at(last, 6)),
+        period: Slots(number_at(last, 8)),
         rates: Rates([frame[2], frame[3], frame[4], frame[5]]),
     }
 }
@@ -125,7 +133,7 @@ fn take_frame(mut p: Problem, last: [u8; 10], frame: [u8; 10]) -> Problem
         }
         LIMIT => {
             p.engine = frame[1];
-            p.limit = four_bytes(frame[2], frame[3], frame[4], frame[5]);
+            p.limit = limit_of(frame);
         }
         _ => {}
     }

@@ -19,7 +19,7 @@ returns-2 c =
     λ s e q f g. task-said s _ _ f e g _ _ _ (k .match .keys2) q (k .before .pre (k .match .keys2)) (c .before .task-of .ensures) (c .add-task .ensures)
 
 returns-3 : tie.Need-returns-3
-returns-3 c = λ s e q f g. limit-said s _ _ f e g _ (c .before .match .keys3) (c .four-bytes .ensures)
+returns-3 c = λ s e q f g. limit-said s _ _ f e g _ (c .before .match .keys3) (c .limit-of .ensures)
 
 returns-4 : tie.Need-returns-4
 returns-4 c = λ s e q f g. nothing-said s _ _ f e g (c .match .rest .0 .0 .1) (c .match .rest .0 .1) (c .match .rest .1)
@@ -29,5 +29,4 @@ take-frame-spec =
     tie.close
     (tie.spec
     (λ c. search needs) (λ c. search needs) (λ c κs. search needs) add-task-requires (λ c. search needs)
-    (λ c. search needs) (λ c. search needs) (λ c. search needs) (λ c. search needs) (λ c κs. search needs) returns
-    returns-2 returns-3 returns-4)
+    (λ c κs. search needs) returns returns-2 returns-3 returns-4)
