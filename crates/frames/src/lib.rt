@@ -97,10 +97,11 @@ fn right_number(n: u8, kind: u8, number: u8) -> bool
 fn in_place(last: u8, n: u8, frame: [u8; 10]) -> bool
     ensures { λ r. ⌜ r ≡ inPlace last n frame ⌝ }
 {
-    if !may_follow(last, frame[0]) {
+    let kind = frame[0];
+    if !may_follow(last, kind) {
         return false;
     }
-    right_number(n, frame[0], frame[1])
+    right_number(n, kind, frame[1])
 }
 
 // The task of an 02 and an 03.
@@ -121,15 +122,12 @@ fn take_frame(mut p: Problem, last: [u8; 10], frame: [u8; 10]) -> Problem
     requires { ⌜ (nth frame 0 ≡ 3 → p .list .n < 16) ⌝ }
     ensures { λ r. ⌜ ((s : State) → p ≡ heldBy s → last ≡ filled (s .last) → (f : List ℕ) → frame ≡ filled f → r ≡ heldBy (taken s f)) ⌝ }
 {
-    let kind = frame[0];
-    match kind {
+    match frame[0] {
         CORES => {
             p.m = frame[1];
         }
         RATES => {
-            let list = p.list;
-            let more = tasks::add_task(list, task_of(last, frame));
-            p.list = more;
+            p.list = tasks::add_task(p.list, task_of(last, frame));
         }
         LIMIT => {
             p.engine = frame[1];

@@ -7,7 +7,7 @@ use Rattle.frames.proofs.take_frame.Statement.{statement}
 use Rattle.frames.proofs.take_frame.Tie as tie
 
 add-task-requires : tie.Need-add-task-requires
-add-task-requires c κs = c .before .before .before .pre (c .before .before .match .keys2)
+add-task-requires c κs = c .before .before .pre (c .before .match .keys2)
 
 returns : tie.Need-returns
 returns c = λ s e q f g. cores-said s _ _ f e g (c .match .keys1)
@@ -15,7 +15,7 @@ returns c = λ s e q f g. cores-said s _ _ f e g (c .match .keys1)
 returns-2 : tie.Need-returns-2
 unfolding told
 returns-2 c =
-    let k = c .before .before .before in
+    let k = c .before .before in
     λ s e q f g. task-said s _ _ f e g _ _ _ (k .match .keys2) q (k .before .pre (k .match .keys2)) (c .before .task-of .ensures) (c .add-task .ensures)
 
 returns-3 : tie.Need-returns-3
