@@ -24,10 +24,10 @@ digits-append (b ∷ f) g = rw (digits-append f g)
 
 module _ (out₀ : List ℕ) (at : ℕ) (frame : List ℕ) where
   -- one more byte of a frame
-  pub one-byte : (k : ℕ) (out out′ : List ℕ) → k < length frame → out ≡ sets out₀ at (digits (take k frame))
-      → out′ ≡ sets out (at + k * 2) (digits (nth frame k ∷ [])) → out′ ≡ sets out₀ at (digits (take (k + 1) frame))
-  one-byte k out out′ l e e′ =
-      e′ ∙ ap (λ o. sets o (at + k * 2) last) e ∙ ap (λ j. sets (sets out₀ at (digits (take k frame))) (at + j) last) (sym size)
+  pub one-byte : (k next : ℕ) (out out′ : List ℕ) → k < length frame → next ≡ at + k * 2 → out ≡ sets out₀ at (digits (take k frame))
+      → out′ ≡ sets out next (digits (nth frame k ∷ [])) → out′ ≡ sets out₀ at (digits (take (k + 1) frame))
+  one-byte k next out out′ l q e e′ =
+      e′ ∙ ap (λ o. sets o next last) e ∙ ap (λ j. sets (sets out₀ at (digits (take k frame))) j last) (q ∙ ap (λ j. at + j) (sym size))
       ∙ sym (sets-append (digits (take k frame)) last out₀ at) ∙ ap (sets out₀ at) whole
     where
       last : List ℕ
@@ -40,14 +40,14 @@ module _ (out₀ : List ℕ) (at : ℕ) (frame : List ℕ) where
       whole = sym (digits-append (take k frame) (nth frame k ∷ [])) ∙ ap digits (sym (take-suc frame k 0 l) ∙ ap (λ n. take n frame) (sym (add-one k)))
 
   -- and the line feed behind the last
-  pub line-end : (k n m : ℕ) (out : List ℕ) → k ≡ n → n ≡ m → n ≤ length frame → out ≡ sets out₀ at (digits (take k frame))
-      → set out (at + n * 2) 10 ≡ sets out₀ at (lineOf (take m frame))
+  pub line-end : (k n next : ℕ) (out : List ℕ) → k ≡ n → k ≤ length frame → next ≡ at + k * 2 → out ≡ sets out₀ at (digits (take k frame))
+      → set out next 10 ≡ sets out₀ at (lineOf (take n frame))
   unfolding lineOf
-  line-end k n m out q r l e =
-      ap (λ o. set o (at + n * 2) 10) (e ∙ ap (λ x. sets out₀ at (digits (take x frame))) q)
-      ∙ ap (λ j. set (sets out₀ at (digits (take n frame))) (at + j) 10) (sym size)
-      ∙ sym (sets-append (digits (take n frame)) (10 ∷ []) out₀ at)
+  line-end k n next out r l q e =
+      ap (λ o. set o next 10) e
+      ∙ ap (λ j. set (sets out₀ at (digits (take k frame))) j 10) (q ∙ ap (λ j. at + j) (sym size))
+      ∙ sym (sets-append (digits (take k frame)) (10 ∷ []) out₀ at)
       ∙ ap (λ x. sets out₀ at (lineOf (take x frame))) r
     where
-      size : length (digits (take n frame)) ≡ n * 2
-      size = digits-length (take n frame) ∙ ap (λ n. n * 2) (length-take-le n frame l)
+      size : length (digits (take k frame)) ≡ k * 2
+      size = digits-length (take k frame) ∙ ap (λ n. n * 2) (length-take-le k frame l)

@@ -1,17 +1,16 @@
 -- A text cut at line feeds, place by place; pairs of digits, and the bytes they stand for.
 -- Assumes nothing.
-use Prim.Native.Nat.{ℕ, zero, suc, _+_, _*_, _-_, _/_, _≤_, _<_}
+use Prim.Native.Nat.{ℕ, zero, suc, _+_, _*_, _-_, _/_, _%_, _≤_, _<_}
 use native.Mathlib.Decide.{ℕ-discrete}
-use native.Mathlib.Numerals.{add-one, add-two}
 use native.Mathlib.Omega.{arith}
 use mathlib.Core.Path.{_≡_, refl, sym, ap, _∙_}
 use mathlib.Core.Logic.{_≢_, ⊎-elim}
-use mathlib.Core.Bool.{true, false}
+use mathlib.Core.Bool.{true, false, and-false}
 use mathlib.Core.List.{List, [], _∷_}
 use borrow.Author.Tests.{lt-ltb, le-ltb, eq-eqb, ne-eqb}
 use lib.Dec.{ltb, leb·suc-suc}
 use lib.ListN.{length, set, take, drop, length-take, length-drop, List·getD-eq-default}
-use lib.Seq.{slice, take-all, slice-empty, slice-cons, length-slice, getD-drop, getD-take, drop-drop}
+use lib.Seq.{slice, take-all, length-slice, getD-drop, getD-take, drop-drop}
 use Rattle.laws.specs.Lists.{nth}
 use Rattle.laws.proofs.SumLaws.{lt-or-ge}
 use Rattle.laws.proofs.ListLaws.{tab-set}
@@ -73,36 +72,57 @@ line-cut text from to l e = first-line (drop from text) n (omega (arith, size)) 
     rest = drop-drop (suc n) from text ∙ ap (λ k. drop k text) next
 
 -- ---- pairs of digits
-module _ (text : List ℕ) (to : ℕ) (fits : to ≤ length text) where
-  -- nothing is left
-  pub pairs-none : (i : ℕ) → i ≡ to → pairs (slice i to text) ≡ true
-  unfolding pairs
-  pairs-none i e = rw e (ap pairs (slice-empty to text))
+-- half a pair is left
+odd-none : (s : List ℕ) → length s % 2 ≢ 0 → pairs s ≡ false
+unfolding pairs
+odd-none [] x = absurd (x refl)
+odd-none (a ∷ []) x = refl
+odd-none (a ∷ b ∷ s) x = rw (odd-none s (λ e. x (omega arith)), and-false (isDigit b), and-false (isDigit a))
 
-  -- half a pair is left
-  pub pairs-odd : (i : ℕ) → i < to → to - i < 2 → pairs (slice i to text) ≡ false
-  unfolding pairs
-  pairs-odd i l h =
-      let e : suc i ≡ to = omega arith in
-      ap pairs (slice-cons i to text 0 l fits ∙ ap (λ s. nth text i ∷ s) (ap (λ k. slice k to text) e ∙ slice-empty to text))
+-- another byte
+other-none : (s : List ℕ) (k : ℕ) → k < length s → isDigit (nth s k) ≡ false → pairs s ≡ false
+unfolding pairs
+other-none [] k l e = absurd (omega arith)
+other-none (a ∷ []) k l e = refl
+other-none (a ∷ b ∷ s) zero l e = rw e
+other-none (a ∷ b ∷ s) (suc zero) l e = rw (e, and-false (isDigit a))
+other-none (a ∷ b ∷ s) (suc (suc k)) l e = rw (other-none s k (omega arith) e, and-false (isDigit b), and-false (isDigit a))
 
-  -- one pair, and what is left behind it
-  slice-pair : (i : ℕ) → i + 1 < to → slice i to text ≡ nth text i ∷ nth text (i + 1) ∷ slice (i + 2) to text
-  slice-pair i l =
-      slice-cons i to text 0 (omega arith) fits
-      ∙ ap (λ s. nth text i ∷ s) (slice-cons (suc i) to text 0 (omega arith) fits ∙ rw (add-one i, add-two i))
+-- digits, two by two
+all-pairs : (s : List ℕ) → length s % 2 ≡ 0 → ((k : ℕ) → k < length s → isDigit (nth s k) ≡ true) → pairs s ≡ true
+unfolding pairs
+all-pairs [] e d = refl
+all-pairs (a ∷ []) e d = absurd (omega arith)
+all-pairs (a ∷ b ∷ s) e d = rw (d 0 (omega arith), d 1 (omega arith)) (all-pairs s (omega arith) (λ k l. d (suc (suc k)) (omega arith)))
 
-  pub pair-first : (i : ℕ) → i + 1 < to → isDigit (nth text i) ≡ false → pairs (slice i to text) ≡ false
-  unfolding pairs
-  pair-first i l a = ap pairs (slice-pair i l) ∙ rw a
+-- a byte of a part of a text
+part-at : (text : List ℕ) (from to j : ℕ) → from + j < to → nth (slice from to text) j ≡ nth text (from + j)
+part-at text from to j h = getD-drop from (take to text) j 0 ∙ getD-take to text (from + j) 0 h
 
-  pub pair-second : (i : ℕ) → i + 1 < to → isDigit (nth text i) ≡ true → isDigit (nth text (i + 1)) ≡ false → pairs (slice i to text) ≡ false
-  unfolding pairs
-  pair-second i l a b = ap pairs (slice-pair i l) ∙ rw (a, b)
+module _ (text : List ℕ) (from to : ℕ) (fits : to ≤ length text) where
+  -- a part of a text that is no pairs
+  pub pairs-odd : (to - from) % 2 ≢ 0 → pairs (slice from to text) ≡ false
+  pairs-odd x = odd-none (slice from to text) (λ e. x (ap (λ n. n % 2) (sym (length-slice from to text fits)) ∙ e))
 
-  pub pair-both : (i : ℕ) → i + 1 < to → isDigit (nth text i) ≡ true → isDigit (nth text (i + 1)) ≡ true → pairs (slice i to text) ≡ pairs (slice (i + 2) to text)
-  unfolding pairs
-  pair-both i l a b = ap pairs (slice-pair i l) ∙ rw (a, b)
+  pub pairs-other : (i : ℕ) → from ≤ i → i < to → isDigit (nth text i) ≡ false → pairs (slice from to text) ≡ false
+  pairs-other i a b e =
+      let whole : from + (i - from) ≡ i = omega arith in
+      other-none (slice from to text) (i - from) (omega (arith, length-slice from to text fits)) (ap isDigit (part-at text from to (i - from) (omega arith) ∙ ap (nth text) whole) ∙ e)
+
+  -- and one that is
+  pub pairs-all : (to - from) % 2 ≡ 0 → ((k : ℕ) → from ≤ k → k < to → isDigit (nth text k) ≡ true) → pairs (slice from to text) ≡ true
+  pairs-all e d = all-pairs (slice from to text) (ap (λ n. n % 2) size ∙ e) (λ k l. ap isDigit (part-at text from to k (omega (arith, size))) ∙ d (from + k) (omega arith) (omega (arith, size)))
+    where
+      size : length (slice from to text) ≡ to - from
+      size = length-slice from to text fits
+
+-- digits before a place, and one there
+pub digits-more : (text : List ℕ) (from i : ℕ) → ((k : ℕ) → from ≤ k → k < i → isDigit (nth text k) ≡ true) → isDigit (nth text i) ≡ true
+    → (k : ℕ) → from ≤ k → k < i + 1 → isDigit (nth text k) ≡ true
+digits-more text from i d e k a b = elim (ℕ-discrete k i) [
+  | yes q ↦ ap (λ j. isDigit (nth text j)) q ∙ e
+  | no y ↦ d k a (omega arith)
+]
 
 -- half as many bytes as digits
 pub bytes-length : (s : List ℕ) → length (bytesOf s) ≡ length s / 2
@@ -141,19 +161,16 @@ module _ (bytes : List ℕ) where
   pub filled-all : (frame : List ℕ) (k : ℕ) → length bytes ≤ k → frame ≡ filled (take k bytes) → frame ≡ filled bytes
   filled-all frame k l e = e ∙ ap filled (take-all k bytes l)
 
--- a byte of a part of a text
+-- the byte of a pair of it
 pub part-byte : (text : List ℕ) (from to k x : ℕ) → to ≤ length text → from + k * 2 + 1 < to
     → x ≡ digitOf (nth text (from + k * 2)) * 16 + digitOf (nth text (from + k * 2 + 1)) → x ≡ nth (bytesOf (slice from to text)) k
 part-byte text from to k x fits l e = e ∙ sym (byte-at (slice from to text) k (omega (arith, length-slice from to text fits)) ∙ rw (high, low))
   where
-    at : (j : ℕ) → from + j < to → nth (slice from to text) j ≡ nth text (from + j)
-    at j h = getD-drop from (take to text) j 0 ∙ getD-take to text (from + j) 0 h
-
     high : nth (slice from to text) (k * 2) ≡ nth text (from + k * 2)
-    high = at (k * 2) (omega arith)
+    high = part-at text from to (k * 2) (omega arith)
 
     next : from + (k * 2 + 1) ≡ from + k * 2 + 1
     next = omega arith
 
     low : nth (slice from to text) (k * 2 + 1) ≡ nth text (from + k * 2 + 1)
-    low = at (k * 2 + 1) (omega arith) ∙ ap (nth text) next
+    low = part-at text from to (k * 2 + 1) (omega arith) ∙ ap (nth text) next

@@ -83,11 +83,12 @@ fn digit(c: u8) -> u8
     }
 }
 
-// The byte of a pair of digits.
-fn pair(high: u8, low: u8) -> u8
-    ensures { λ r. ⌜ r ≡ digitOf high * 16 + digitOf low ⌝ }
+// The byte of the pair of digits at a place.
+fn byte_at(text: &[u8], at: usize) -> u8
+    requires { ⌜ at + 1 < length (now text) ⌝ }
+    ensures { λ r. ⌜ r ≡ digitOf (nth (now (text .entry)) at) * 16 + digitOf (nth (now (text .entry)) (at + 1)) ⌝ }
 {
-    digit(high) * 16 + digit(low)
+    digit(text[at]) * 16 + digit(text[at + 1])
 }
 
 // The digit of a number below 16.
@@ -113,13 +114,15 @@ pub fn put_frame(out: &mut [u8], at: usize, frame: [u8; 10]) -> usize
     ensures { λ r. ⌜ (r ≡ at + (lengthOfKind (nth frame 0) * 2 + 1)) × (now (out .exit) ≡ sets (now (out .entry)) at (lineOf (take (lengthOfKind (nth frame 0)) frame))) ⌝ }
 {
     let count = length_of(frame[0]);
+    let mut next = at;
     let mut k: usize = 0;
     while k < count {
-        put_byte(out, at + k * 2, frame[k]);
+        put_byte(out, next, frame[k]);
+        next += 2;
         k += 1;
     }
-    out[at + count * 2] = b'\n';
-    at + (count * 2 + 1)
+    out[next] = b'\n';
+    next + 1
 }
 
 // Where the line that begins at a place ends: at its line feed, or at the text's end.
@@ -142,18 +145,15 @@ fn are_pairs(text: &[u8], from: usize, to: usize) -> bool
     requires { ⌜ (from ≤ to) × (to ≤ length (now text)) ⌝ }
     ensures { λ r. ⌜ r ≡ pairs (slice from to (now (text .entry))) ⌝ }
 {
+    if (to - from) % 2 != 0 {
+        return false;
+    }
     let mut i = from;
     while i < to {
-        if to - i < 2 {
-            return false;
-        }
         if !is_digit(text[i]) {
             return false;
         }
-        if !is_digit(text[i + 1]) {
-            return false;
-        }
-        i += 2;
+        i += 1;
     }
     true
 }
@@ -195,7 +195,7 @@ pub fn line_refusal(text: &[u8], from: usize, to: usize) -> u8
     if !are_pairs(text, from, to) {
         return NOT_LINE;
     }
-    frame_refusal(pair(text[from], text[from + 1]), (to - from) / 2)
+    frame_refusal(byte_at(text, from), (to - from) / 2)
 }
 
 // The bytes of a line, filled up with 0.
@@ -207,8 +207,7 @@ pub fn frame_at(text: &[u8], from: usize, to: usize) -> [u8; 10]
     let mut frame = [0u8; 10];
     let mut k: usize = 0;
     while k < count {
-        let i = from + k * 2;
-        frame[k] = pair(text[i], text[i + 1]);
+        frame[k] = byte_at(text, from + k * 2);
         k += 1;
     }
     frame

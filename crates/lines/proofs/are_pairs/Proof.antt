@@ -1,64 +1,53 @@
--- `lines::are_pairs` meets its contract. The loop's invariant: what is left decides. The measure is its length.
+-- `lines::are_pairs` meets its contract. The loop's invariant: digits alone are passed. The measure is what is left.
 -- Assumes nothing.
-use Prim.Native.Nat.{_-_, _≤_}
-use mathlib.Core.Path.{_≡_, refl, _∙_, sym}
+use Prim.Native.Nat.{ℕ, _-_, _≤_, _<_}
+use mathlib.Core.Bool.{true}
+use mathlib.Core.Path.{_≡_, _∙_, sym}
 use native.Mathlib.Omega.{arith}
 use borrow.Author.Needs.{needs}
 use borrow.Author.Tests.{not-true, not-false}
-use lib.Seq.{slice}
-use Rattle.lines.specs.Lines.{pairs}
-use Rattle.lines.proofs.LineLaws.{pairs-none, pairs-odd, pair-first, pair-second, pair-both}
+use Rattle.laws.specs.Lists.{nth}
+use Rattle.lines.specs.Lines.{isDigit}
+use Rattle.lines.proofs.LineLaws.{pairs-odd, pairs-other, pairs-all, digits-more}
 use Rattle.lines.proofs.are_pairs.Statement.{statement}
 use Rattle.lines.proofs.are_pairs.Tie as tie
 
 abbrev Inv-loop : tie.InvT-loop
-Inv-loop text from to i₀ i = (i ≤ to) × (pairs (slice from to text) ≡ pairs (slice i to text))
+Inv-loop text from to i₀ i = (from ≤ i) × (i ≤ to) × ((k : ℕ) → from ≤ k → k < i → isDigit (nth text k) ≡ true)
 
 abbrev μ-loop : tie.MeasureT-loop
 μ-loop text from to i₀ i = to - i
 
-loop-holds : tie.Need-loop-holds Inv-loop μ-loop
-loop-holds c = (omega arith, refl)
-
 returns : tie.Need-returns Inv-loop μ-loop
 returns c =
-    let a = c .before .before .before .before in
-    sym (c .before .before .loop .inv .1 ∙ pairs-odd (a .args .text .now) (a .args .to) (a .pre .1) _ (c .before .loop-test .taken) (c .if1 .taken))
+    let a = c .before .before in
+    sym (pairs-odd (a .args .text .now) (a .args .from) (a .args .to) (a .pre .1) (c .if1 .taken))
+
+loop-holds : tie.Need-loop-holds Inv-loop μ-loop
+loop-holds c = (omega arith, omega arith, λ k a b. absurd (omega arith))
 
 returns-2 : tie.Need-returns-2 Inv-loop μ-loop
 returns-2 c =
     let a = c .before .before .before .before .before .before .before in
-    let i = c .before .before .before .before .before .loop in
-    sym (i .inv .1 ∙ pair-first (a .args .text .now) (a .args .to) (a .pre .1) (i .i) (omega arith)
+    let i = c .before .before .before .before .loop in
+    sym (pairs-other (a .args .text .now) (a .args .from) (a .args .to) (a .pre .1) (i .i) (i .inv .0) (c .before .before .before .loop-test .taken)
     (sym (c .before .is-digit .ensures) ∙ not-true _ (c .if2 .taken)))
-
-returns-3 : tie.Need-returns-3 Inv-loop μ-loop
-returns-3 c =
-    let a = c .before .before .before .before .before .before .before .before .before .before in
-    let i = c .before .before .before .before .before .before .before .before .loop in
-    sym (i .inv .1 ∙ pair-second (a .args .text .now) (a .args .to) (a .pre .1) (i .i) (omega arith)
-    (sym (c .before .before .before .before .is-digit .ensures) ∙ not-false _ (c .before .before .before .if2 .left))
-    (sym (c .before .is-digit2 .ensures) ∙ not-true _ (c .if3 .taken)))
 
 loop-again : tie.Need-loop-again Inv-loop μ-loop
 loop-again c =
-    let a = c .before .before .before .before .before .before .before .before .before .before in
-    let i = c .before .before .before .before .before .before .before .before .loop in (
-      omega arith,
-      i .inv .1 ∙ pair-both (a .args .text .now) (a .args .to) (a .pre .1) (i .i) (omega arith)
-          (sym (c .before .before .before .before .is-digit .ensures) ∙ not-false _ (c .before .before .before .if2 .left))
-          (sym (c .before .is-digit2 .ensures) ∙ not-false _ (c .if3 .left)),
-    )
+    let a = c .before .before .before .before .before .before .before in
+    let i = c .before .before .before .before .loop in
+    (omega arith, omega arith, digits-more (a .args .text .now) (a .args .from) (i .i) (i .inv .2) (sym (c .before .is-digit .ensures) ∙ not-false _ (c .if2 .left)))
 
-returns-4 : tie.Need-returns-4 Inv-loop μ-loop
-returns-4 c =
-    let a = c .before .before .before in
-    sym (c .before .loop .inv .1 ∙ pairs-none (a .args .text .now) (a .args .to) (a .pre .1) (c .before .loop .i) (omega arith))
+returns-3 : tie.Need-returns-3 Inv-loop μ-loop
+returns-3 c =
+    let a = c .before .before .before .before in
+    let i = c .before .loop in
+    sym (pairs-all (a .args .text .now) (a .args .from) (a .args .to) (a .pre .1) (c .before .before .if1 .left) (λ k l h. i .inv .2 k l (omega arith)))
 
 pub are-pairs-spec : {M : Type 1} → statement M
 are-pairs-spec =
     tie.close
     (tie.spec
-    Inv-loop μ-loop loop-holds (λ c. search needs) returns (λ c. search needs) (λ c κs. search needs) returns-2
-    (λ c. search needs) (λ c. search needs) (λ c κs. search needs) returns-3 (λ c. search needs) (λ c. search needs)
-    loop-again returns-4)
+    Inv-loop μ-loop (λ c. search needs) returns loop-holds (λ c. search needs) (λ c κs. search needs) returns-2
+    (λ c. search needs) (λ c. search needs) loop-again returns-3)

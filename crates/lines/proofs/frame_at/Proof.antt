@@ -25,11 +25,11 @@ loop-holds c = (omega arith, refl)
 
 loop-again : tie.Need-loop-again Inv-loop μ-loop
 loop-again c =
-    let a = c .before .before .before .before .before .before in
-    let k = c .before .before .before .before .loop in (
+    let a = c .before .before .before .before in
+    let k = c .before .before .loop in (
       omega arith,
       filled-more (bytesOf (slice (a .args .from) (a .args .to) (a .args .text .now))) _ (k .k) _ (omega arith) (k .inv .1)
-          (part-byte (a .args .text .now) (a .args .from) (a .args .to) (k .k) _ (a .pre .1) (omega arith) (c .pair .ensures)),
+          (part-byte (a .args .text .now) (a .args .from) (a .args .to) (k .k) _ (a .pre .1) (omega arith) (c .byte-at .ensures)),
     )
 
 returns : tie.Need-returns Inv-loop μ-loop
@@ -43,6 +43,5 @@ pub frame-at-spec : {M : Type 1} → statement M
 frame-at-spec =
     tie.close
     (tie.spec
-    Inv-loop μ-loop (λ c. search needs) loop-holds (λ c. search needs) (λ c. search needs) (λ c. search needs)
-    (λ c. search needs) (λ c. search needs) (λ c κs. search needs) (λ c. search needs) (λ c. search needs)
-    (λ c. search needs) loop-again returns)
+    Inv-loop μ-loop (λ c. search needs) loop-holds (λ c. search needs) (λ c. search needs) (λ c κs. search needs)
+    (λ c. search needs) (λ c. search needs) (λ c. search needs) loop-again returns)

@@ -25,14 +25,14 @@ returns-3 c =
 
 returns-4 : tie.Need-returns-4
 returns-4 c =
-    let a = c .before .before .before .before .before .before .before .before .before in
+    let a = c .before .before .before .before .before .before .before in
     c .frame-refusal .ensures
-    ∙ whole-line (a .args .text .now) (a .args .from) (a .args .to) (a .pre .1) _ (λ e. omega arith) (c .before .before .before .before .before .before .if2 .left)
-    (sym (c .before .before .before .before .before .are-pairs .ensures) ∙ not-false _ (c .before .before .before .before .if3 .left)) (c .before .pair .ensures)
+    ∙ whole-line (a .args .text .now) (a .args .from) (a .args .to) (a .pre .1) _ (λ e. omega arith) (c .before .before .before .before .if2 .left)
+    (sym (c .before .before .before .are-pairs .ensures) ∙ not-false _ (c .before .before .if3 .left)) (c .before .byte-at .ensures)
 
 pub line-refusal-spec : {M : Type 1} → statement M
 line-refusal-spec =
     tie.close
     (tie.spec
-    returns (λ c. search needs) returns-2 (λ c κs. search needs) returns-3 (λ c. search needs) (λ c. search needs)
-    (λ c. search needs) (λ c κs. search needs) (λ c. search needs) (λ c κs. search needs) returns-4)
+    returns (λ c. search needs) returns-2 (λ c κs. search needs) returns-3 (λ c κs. search needs) (λ c. search needs)
+    (λ c κs. search needs) returns-4)
