@@ -1,6 +1,6 @@
 -- What stands on the board, and what the walk reads there with the table and the work left.
 -- Assumes nothing.
-use Prim.Native.Nat.{ℕ, zero, suc, _+_, _*_, _/_, _%_, max, min}
+use Prim.Native.Nat.{ℕ, zero, suc, _+_, _*_, _/_, _%_, _≤_, _<_, max, min}
 use mathlib.Core.Bool.{Bool, not}
 use mathlib.Core.List.{List}
 use lib.Dec.{leb, eqb}
@@ -83,3 +83,10 @@ endsOn board slot = nth board (16739 + slot)
 -- each job whose highest-numbered slot this is has no work left
 unfoldable pub closesOn : List ℕ → List ℕ → ℕ → Bool
 closesOn board l slot = all (tasksOn board) (λ v. imp (leb (endsOn board slot) v) (settledOn board l slot v))
+
+-- a board of at most 16 tasks, 4 cores and 1024 slots, and one of its slots
+pub record Fits (board : List ℕ) (slot : ℕ) : Type 0 where
+  pub tasks : tasksOn board ≤ 16
+  pub cores : coresOn board ≤ 4
+  pub slots : slotsOn board ≤ 1024
+  pub slot-in : slot < slotsOn board

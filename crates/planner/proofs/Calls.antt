@@ -11,7 +11,7 @@ use Rattle.tasks.specs.declared.Task.{Task}
 use Rattle.table.specs.Fault.{check}
 use Rattle.rules.specs.Search.{search}
 use Rattle.search.specs.declared.Answer.{Answer}
-use Rattle.search.specs.Board.{toldOf}
+use Rattle.search.specs.Told.{toldOf}
 use Rattle.search.proofs.Calls.{told-only}
 use Rattle.checker.specs.declared.Verdict.{Verdict}
 use Rattle.checker.specs.Checks.{toldOf as checkedAs}

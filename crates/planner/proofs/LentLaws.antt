@@ -13,7 +13,7 @@ use Rattle.rules.specs.Search.{Searched, search}
 use Rattle.lent.specs.declared.Lent.{Lent}
 use Rattle.lent.specs.Scan.{Scanned}
 use Rattle.lent.proofs.ScanLaws.{scan-refused}
-use Rattle.search.specs.Board.{refusedBy, toldOf}
+use Rattle.search.specs.Told.{refusedBy, toldOf}
 use Rattle.search.proofs.AnswerLaws.{list-refused}
 use Rattle.checker.specs.declared.Verdict.the-variants.{Refused}
 use Rattle.checker.specs.Checks.{toldOf as checkedAs}

@@ -27,7 +27,7 @@ use Rattle.frames.specs.Read.{Read, refused, problem, readProblem, blankOf, tol
 use Rattle.answer.specs.Write.{slotLines, writeAnswer, canWrite, Written}
 use Rattle.frames.proofs.ProblemLaws.{read-held, read-refused}
 use Rattle.search.specs.declared.Answer.{Answer}
-use Rattle.search.specs.Board.{toldOf}
+use Rattle.search.specs.Told.{toldOf}
 use Rattle.planner.specs.declared.Size.{Size}
 use Rattle.planner.specs.Answer.{sizeOf, searchAnswer, answerOf, answerTo}
 

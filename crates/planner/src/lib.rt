@@ -6,7 +6,7 @@ ghost use Rattle.tasks.specs.Task.{rows};
 ghost use Rattle.table.specs.Fault.{check as checkOf};
 ghost use Rattle.rules.specs.Search.{search as searchOf};
 ghost use Rattle.lent.specs.Scan.{Scanned};
-ghost use Rattle.search.specs.Board.{toldOf};
+ghost use Rattle.search.specs.Told.{toldOf};
 ghost use Rattle.checker.specs.Checks.{toldOf as checkedAs};
 ghost use Rattle.player.specs.Player.{started, afterStart};
 ghost use lib.ListN.{length};

@@ -1,46 +1,63 @@
--- What the walk asks of the board, and what the search answers: a refusal, or what the walk tells.
+-- What the search answers: a refusal, or what the walk tells.
 -- Assumes nothing.
 use Prim.Native.Nat.{ℕ, zero, suc, _*_, _≤_, _<_}
 use mathlib.Core.Path.{_≡_, refl, sym, ap, _∙_}
 use mathlib.Core.Logic.{_≢_}
+use mathlib.Core.Bool.{Bool, true, false}
 use mathlib.Core.List.{List}
 use native.Mathlib.Omega.{arith}
 use native.Mathlib.Nat.{mul-le-mul}
-use lib.ListN.{length, replicate}
+use lib.Dec.{T, leb, leb→le}
+use lib.ListN.{length}
 use borrow.Author.Tests.{le-leb, lt-leb}
 use Rattle.tasks.specs.declared.Slots.{Slots}
 use Rattle.tasks.specs.declared.Task.{Task}
-use Rattle.tasks.specs.declared.TaskList.{TaskList}
 use Rattle.tasks.specs.declared.Soundness.{Soundness}
 use Rattle.tasks.specs.declared.Soundness.the-variants.{Sound, Refused}
-use Rattle.tasks.specs.Task.{rows}
 use Rattle.tasks.specs.Refusal.{unless, tableLength, IsSound, soundnessOf}
 use Rattle.tasks.specs.Instance.{instanceOf}
 use Rattle.tasks.proofs.SoundLaws.{sound-list, soundness-sound, soundness-refused}
 use Rattle.tasks.proofs.AnswerLaws.{or-first, or-next}
 use Rattle.rules.specs.Search.{Searched, toldUnless, searchRefusal, search}
 use Rattle.rules.proofs.Told.{search-told}
-use Rattle.board.specs.Board.{coresOn}
-use Rattle.walk.specs.Machine.{Fits}
 use Rattle.search.specs.declared.Answer.{Answer}
-use Rattle.search.specs.Board.{boardOf, refusedBy, walkTold, toldOf}
-use Rattle.search.proofs.BoardLaws.{board-fits, board-cores}
+use Rattle.search.specs.Told.{refusedBy, callRefusal, walkTold, toldOf}
 
--- ---- what the walk asks
 -- the cells of a sound list's table
 pub few-cells : (m : ℕ) (ts : List Task) (L : ℕ) → IsSound m ts → L ≡ tableLength ts → L * m ≤ 4096
 few-cells m ts L s e = let sound = sound-list m ts s in mul-le-mul {n₂ = 1024} {m₂ = 4} (omega arith) (sound .few-cores)
-
--- its board
-pub board-ready : (m : ℕ) (list : TaskList) (e L : ℕ) (board : List ℕ) → IsSound m (rows list) → L ≡ tableLength (rows list) → board ≡ boardOf list m e L (replicate 17763 0)
-    → Fits board 0 × (0 < coresOn board)
-board-ready m list e L board s l eb =
-    rw eb (board-fits m list e L s l, omega (arith, board-cores m list e L s l, sound-list m (rows list) s .some-core))
 
 -- ---- what the search answers
 -- a list that is told sound
 pub told-sound : (m : ℕ) (ts : List Task) (L : Slots) (s : Soundness) → s ≡ soundnessOf m ts → s ≡ Sound L → IsSound m ts × (L .0 ≡ tableLength ts)
 told-sound m ts L s es el = soundness-sound m ts L (sym es ∙ el)
+
+-- the refusal k of an engine e, or of a buffer with too little room for n cells
+module _ (e room n : ℕ) where
+  -- of the engine
+  pub engine-refused : 1 < e → 9 ≡ callRefusal e room n
+  unfolding callRefusal unless
+  engine-refused l = rw (lt-leb e 1 l)
+
+  -- of the buffer
+  pub buffer-refused : e ≤ 1 → room < n → 10 ≡ callRefusal e room n
+  unfolding callRefusal unless
+  buffer-refused l short = rw (le-leb e 1 l, lt-leb n room short)
+
+  -- neither
+  pub none-refused : e ≤ 1 → n ≤ room → 0 ≡ callRefusal e room n
+  unfolding callRefusal unless
+  none-refused l long = rw (le-leb e 1 l, le-leb n room long)
+
+  -- where it is 0
+  pub not-refused : (k : ℕ) → k ≡ callRefusal e room n → k ≡ 0 → (e ≤ 1) × (n ≤ room)
+  unfolding callRefusal unless
+  not-refused k ek z = let both = go (leb e 1) (leb n room) (sym ek ∙ z) in (leb→le e 1 (both .0), leb→le n room (both .1))
+    where
+      go : (a b : Bool) → unless a 9 (unless b 10 0) ≡ 0 → T a × T b
+      go true true h = (tt, tt)
+      go true false h = absurd (omega arith)
+      go false b h = absurd (omega arith)
 
 module _ (m : ℕ) (ts : List Task) (e b : ℕ) (buffer : List ℕ) where
   -- a refusal
@@ -57,21 +74,16 @@ module _ (m : ℕ) (ts : List Task) (e b : ℕ) (buffer : List ℕ) where
   unfolding searchRefusal
   list-refused k r s es ek er = let h = soundness-refused m k ts (sym es ∙ ek) in refused-by k r er (h .1) (or-first _ _ _ (h .0) (h .1))
 
-  module _ (L : Slots) (s : Soundness) (es : s ≡ soundnessOf m ts) (el : s ≡ Sound L) where
-    -- of the engine
-    pub engine-refused : (r : Answer) → 1 < e → r ≡ refusedBy 9 → toldOf r buffer ≡ search m ts e b buffer
-    unfolding searchRefusal unless
-    engine-refused r l er =
-        refused-by 9 r er (λ z. omega arith) (or-next _ _ _ _ refl (told-sound m ts L s es el .0) (rw (lt-leb e 1 l)))
-
-    -- of the buffer
-    pub buffer-refused : (r : Answer) → e ≤ 1 → length buffer < L .0 * m → r ≡ refusedBy 10 → toldOf r buffer ≡ search m ts e b buffer
-    unfolding searchRefusal unless instanceOf
-    buffer-refused r l short er =
-        refused-by 10 r er (λ z. omega arith)
-        (or-next _ _ _ _ refl (told-sound m ts L s es el .0) (rw (le-leb e 1 l, lt-leb (tableLength ts * m) (length buffer) (omega (arith, short, ap (λ n. n * m) (told-sound m ts L s es el .1))))))
+  module _ (L : Slots) (s : Soundness) (es : s ≡ soundnessOf m ts) (el : s ≡ Sound L) (k : ℕ) (ek : k ≡ callRefusal e (length buffer) (L .0 * m)) where
+    -- of the engine or of the buffer
+    pub call-refused : (r : Answer) → k ≢ 0 → r ≡ refusedBy k → toldOf r buffer ≡ search m ts e b buffer
+    unfolding searchRefusal callRefusal instanceOf
+    call-refused r x er = let told = told-sound m ts L s es el in refused-by k r er x (or-next _ _ _ _ refl (told .0) (rw (← told .1) ek))
 
     -- no refusal
-    pub walk-answer : (x : Searched) → e ≤ 1 → L .0 * m ≤ length buffer → x ≡ walkTold m ts e b buffer → x ≡ search m ts e b buffer
+    pub walk-answer : (x : Searched) → k ≡ 0 → x ≡ walkTold m ts e b buffer → x ≡ search m ts e b buffer
     unfolding walkTold instanceOf
-    walk-answer x l room h = h ∙ sym (search-told m ts e b buffer (told-sound m ts L s es el .0) l (omega (arith, room, ap (λ n. n * m) (told-sound m ts L s es el .1))))
+    walk-answer x z h =
+        let told = told-sound m ts L s es el in
+        let may = not-refused e (length buffer) (L .0 * m) k ek z in
+        h ∙ sym (search-told m ts e b buffer (told .0) (may .0) (omega (arith, may .1, ap (λ n. n * m) (told .1))))

@@ -9,7 +9,7 @@ use Rattle.tasks.specs.declared.TaskList.{TaskList}
 use Rattle.tasks.specs.Task.{rows}
 use Rattle.rules.specs.Search.{Searched, search}
 use Rattle.search.specs.declared.Answer.{Answer}
-use Rattle.search.specs.Board.{toldOf}
+use Rattle.search.specs.Told.{toldOf}
 use Rattle.search.proofs.search as the-search
 
 -- what is told of an answer and a buffer tells them apart from all others

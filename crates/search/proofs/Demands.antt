@@ -13,7 +13,7 @@ use Rattle.rules.specs.Search.{searchRefusal, walked, search}
 use Rattle.rules.proofs.Demand2.{Searches, searches}
 use Rattle.rules.proofs.Demand3.{Agree, agree}
 use Rattle.search.specs.declared.Answer.{Answer}
-use Rattle.search.specs.Board.{toldOf}
+use Rattle.search.specs.Told.{toldOf}
 use Rattle.search.proofs.Calls.{Search}
 
 -- what a refused call answers and leaves

@@ -1,7 +1,4 @@
-pub mod FillLaws
-pub mod FitLaws
-pub mod BoardLaws
-pub mod ToldLaws
 pub mod AnswerLaws
+pub mod ToldLaws
 pub mod Calls
 pub mod Demands

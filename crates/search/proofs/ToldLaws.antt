@@ -1,35 +1,40 @@
 -- What the search tells: the walk on the filled arrays is the engine's under the limit, with the tries counted from where the limit leaves as many.
 -- Assumes nothing.
-use Prim.Native.Nat.{ℕ, suc, _+_, _*_, _-_, _%_, _≤_, _<_}
+use Prim.Native.Nat.{ℕ, zero, suc, _+_, _*_, _-_, _/_, _%_, _≤_, _<_}
 use native.Mathlib.Omega.{arith}
-use native.Mathlib.Nat.{zero-mul, mul-le-mul, mul-pos}
+use native.Mathlib.Nat.{zero-mul, zero-add, mul-pos, div-le-self}
 use mathlib.Core.Path.{_≡_, refl, sym, ap, ap₂, subst, _∙_}
-use mathlib.Core.Logic.{⊎-elim}
+use mathlib.Core.Logic.{_≢_, ⊎-elim}
 use mathlib.Core.Bool.{Bool, true, false}
 use mathlib.Core.List.{List}
-use lib.Dec.{leb}
+use lib.Dec.{leb, eqb}
 use borrow.Author.Tests.{le-leb, lt-leb}
-use lib.ListN.{length, take, replicate, length-replicate}
+use lib.ListN.{length, take, replicate, length-replicate, getD-replicate}
+use lib.Arith.{digits-mod}
+use Rattle.laws.specs.Sum.{sum}
 use Rattle.laws.specs.Lists.{nth, over, filled}
 use Rattle.laws.proofs.SumLaws.{lt-or-ge}
-use Rattle.laws.proofs.ListLaws.{tab-take, tab-replicate, filled-length, filled-over}
+use Rattle.laws.proofs.ListLaws.{tab-take, tab-replicate, filled-length, filled-at, filled-behind, filled-over}
 use Rattle.tasks.specs.declared.TaskList.{TaskList}
-use Rattle.tasks.specs.Task.{rows}
+use Rattle.tasks.specs.Task.{task, taskAt, rows}
 use Rattle.tasks.specs.Refusal.{IsSound, tableLength}
 use Rattle.tasks.specs.Instance.{instanceOf}
 use Rattle.tasks.proofs.SoundLaws.{SoundList, sound-list}
+use Rattle.table.specs.Table.{done}
 use Rattle.rules.specs.Walk as walks
 use Rattle.rules.specs.Walk.{Result, tries, spend, ended, cap, limited}
 use Rattle.rules.specs.Right.{ownInstance}
 use Rattle.rules.specs.Search.{walked, told}
 use Rattle.board.specs.Board.{coresOn, setsOn}
 use Rattle.walk.specs.Machine.{End, Found, Nothing, Stopped, packed, State, walkOn, firstOn, cellsLeft, full, Leaves, Ran}
-use Rattle.board.specs.Ready.{Ready, Lefts}
+use Rattle.board.specs.Ready.{counterOf, Ready, Lefts}
 use Rattle.walk.proofs.TurnLaws.{packed-nothing, packed-found, packed-stopped}
 use Rattle.walk.proofs.RefineLaws.{toldAt, Shows, shows-same, walk-limited}
 use Rattle.search.specs.declared.Answer.{Answer}
-use Rattle.search.specs.Board.{workAt, boardOf, walkTold, toldOf}
-use Rattle.search.proofs.BoardLaws.{instance-small, board-ready, lefts-start}
+use Rattle.fill.specs.Board.{boardOf}
+use Rattle.fill.proofs.BoardLaws.{is-task, instance-small, filled-ready}
+use Rattle.search.specs.Told.{workAt, verdictOf, answerOf, cellLeft, walkTold, toldOf}
+use Rattle.search.proofs.AnswerLaws.{few-cells}
 
 -- ---- tries counted from u on
 -- the tries of an answer
@@ -94,42 +99,63 @@ told-used Found n c t k = refl
 told-used Nothing n c t k = refl
 told-used Stopped n c t k = refl
 
--- what the number, from u tries on, makes of the answer and the buffer, n cells long
-pub data Tells (n u r : ℕ) (t buffer buffer′ : List ℕ) : Answer → Type 0 where
-  none : r < 4294967296 → buffer′ ≡ filled buffer 0 n (λ _. 0) → Tells n u r t buffer buffer′ (record { verdict = 13; tries = r % 4294967296 - u })
-  found : 4294967296 ≤ r → r < 8589934592 → buffer′ ≡ filled buffer 0 n (nth t) → Tells n u r t buffer buffer′ (record { verdict = 0; tries = r % 4294967296 - u })
-  stopped : 8589934592 ≤ r → buffer′ ≡ filled buffer 0 n (λ _. 0) → Tells n u r t buffer buffer′ (record { verdict = 14; tries = r % 4294967296 - u })
+-- the answer that its tests find, with the tries from u on
+module _ (u w : ℕ) where
+  -- nothing
+  pub tells-none : w < 4294967296 → (e : End) (k : ℕ) → w ≡ packed e k → k < 4294967296 → record { verdict = 13; tries = w % 4294967296 - u } ≡ answerOf e k u
+  unfolding verdictOf
+  tells-none small e k h l = rw (packed-nothing e k w h small .0) (ap (λ k. answerOf Nothing k u) (packed-tries e k w h l))
+
+  -- a table
+  pub tells-found : 4294967296 ≤ w → w < 8589934592 → (e : End) (k : ℕ) → w ≡ packed e k → k < 4294967296 → record { verdict = 0; tries = w % 4294967296 - u } ≡ answerOf e k u
+  unfolding verdictOf
+  tells-found big small e k h l = rw (packed-found e k w h l big small .0) (ap (λ k. answerOf Found k u) (packed-tries e k w h l))
+
+  -- the limit
+  pub tells-stopped : 8589934592 ≤ w → (e : End) (k : ℕ) → w ≡ packed e k → k < 4294967296 → record { verdict = 14; tries = w % 4294967296 - u } ≡ answerOf e k u
+  unfolding verdictOf
+  tells-stopped big e k h l = rw (packed-stopped e k w h l big .0) (ap (λ k. answerOf Stopped k u) (packed-tries e k w h l))
 
 -- the first n cells 0
 cleared : (n : ℕ) (buffer : List ℕ) → n ≤ length buffer → filled buffer 0 n (λ _. 0) ≡ over (replicate n 0) buffer
 cleared n buffer room = filled-over n buffer (λ _. 0) room ∙ ap (λ s. over s buffer) (tab-replicate n 0)
 
--- the number told, where a state leaves it
-module _ (n u r : ℕ) (t l buffer buffer′ : List ℕ) (s : State) (h : Leaves full s r t l) (long : n ≤ length t) (room : n ≤ length buffer) where
-  -- its tries
-  counted : r % 4294967296 ≡ s .tries
-  counted = packed-tries (s .end) (s .tries) r (h .answer) (omega (arith, h .most))
+-- the answer and the buffer are those of what an end tells, with u tries less
+told-end : (e : End) (n u k : ℕ) (t buffer : List ℕ) → n ≤ length t → n ≤ length buffer
+    → toldOf (answerOf e k u) (filled buffer 0 n (cellLeft (eqb (verdictOf e) 0) t)) ≡ told n buffer (less u (toldAt e n 0 t k))
+unfolding told toldAt verdictOf cellLeft
+told-end Nothing n u k t buffer long room = λ i. record { verdict = 13; tries = k - u; buffer = cleared n buffer room i }
+told-end Found n u k t buffer long room = λ i. record {
+  verdict = 0;
+  tries = k - u;
+  buffer = (filled-over n buffer (nth t) room ∙ ap (λ s. over s buffer) (tab-take n t long ∙ ap (λ k. take k t) whole)) i;
+}
+  where
+    whole : n ≡ n - 0
+    whole = omega arith
+told-end Stopped n u k t buffer long room = λ i. record { verdict = 14; tries = k - u; buffer = cleared n buffer room i }
 
-  -- all of its cells
-  whole : n ≡ n - 0
-  whole = omega arith
-
-  -- the answer and the buffer are those of what the state tells, with u tries less
-  told-end : (x : Answer) → Tells n u r t buffer buffer′ x → toldOf x buffer′ ≡ told n buffer (less u (toldAt (s .end) n 0 (s .table) (s .tries)))
-  unfolding told toldAt
-  told-end x (none small e) =
-      rw (packed-nothing (s .end) (s .tries) r (h .answer) small .0)
-      (λ i. record { verdict = 13; tries = counted i - u; buffer = (e ∙ cleared n buffer room) i })
-  told-end x (found big small e) =
-      rw (packed-found (s .end) (s .tries) r (h .answer) (omega (arith, h .most)) big small .0)
-      (λ i. record {
-        verdict = 0;
-        tries = counted i - u;
-        buffer = (e ∙ filled-over n buffer (nth t) room ∙ ap (λ s. over s buffer) (tab-take n t long ∙ (λ i. take (whole i) (h .table i)))) i;
-      })
-  told-end x (stopped big e) =
-      rw (packed-stopped (s .end) (s .tries) r (h .answer) (omega (arith, h .most)) big .0)
-      (λ i. record { verdict = 14; tries = counted i - u; buffer = (e ∙ cleared n buffer room) i })
+-- ---- the counters
+module _ {m : ℕ} (list : TaskList) (s : SoundList m (rows list)) where
+  -- the counters hold each job's whole work
+  lefts-start : (t : List ℕ) → Lefts (ownInstance m (rows list)) 0 (nth t) (filled (replicate 32768 0) 0 16384 (workAt (list .work)))
+  unfolding instanceOf done sum taskAt
+  lefts-start t = record {
+    counters = counters;
+    none-closed = filled-behind (replicate 32768 0) 0 16384 (workAt (list .work)) 16384 (omega arith) ∙ getD-replicate {A = ℕ} 32768 16384 0 0 (omega arith);
+  }
+    where
+      counters : (i k : ℕ) → i ≢ 0 → i ≤ length (rows list) → k < tableLength (rows list) / task (rows list) i .period .0
+          → nth (filled (replicate 32768 0) 0 16384 (workAt (list .work))) (counterOf i k) ≡ task (rows list) i .work .0 - 0
+      counters zero k x l h = absurd (x refl)
+      counters (suc v) k x l h =
+          let few : k < 1024 = omega (arith, div-le-self (tableLength (rows list)) (task (rows list) (suc v) .period .0), s .few-slots) in
+          let w : v < 16 = omega (arith, s .few-tasks) in
+          ap (nth (filled (replicate 32768 0) 0 16384 (workAt (list .work)))) (sym (zero-add (k * 16 + v)))
+          ∙ filled-at (replicate 32768 0) 0 16384 (workAt (list .work)) (k * 16 + v) (omega arith) (rw (length-replicate {A = ℕ} 32768 0) (omega arith))
+          ∙ ap (nth (list .work)) (digits-mod k w)
+          ∙ sym (ap (λ τ. τ .work .0) (is-task list s 0 v l .1))
+          ∙ omega arith
 
 -- ---- the walk on the filled arrays, from as many tries as leave b
 module _ (m : ℕ) (list : TaskList) (e b L : ℕ) (sound : IsSound m (rows list)) (eL : L ≡ tableLength (rows list)) (lb : b < 4294967296)
@@ -140,11 +166,11 @@ module _ (m : ℕ) (list : TaskList) (e b L : ℕ) (sound : IsSound m (rows list
 
   -- its cells are the table's
   few : L * m ≤ 4096
-  few = mul-le-mul {n₂ = 1024} {m₂ = 4} (omega (arith, sound-parts .few-slots)) (sound-parts .few-cores)
+  few = few-cells m (rows list) L sound eL
 
   -- the board is the instance's
   ready : Ready (ownInstance m (rows list)) e board
-  ready = subst (Ready (ownInstance m (rows list)) e) (sym (eb ∙ ap (λ n. boardOf list m e n (replicate 17763 0)) eL)) (board-ready list sound-parts e)
+  ready = filled-ready m list e L sound eL board eb
 
   -- and the walk goes over its cells
   size : suc (cellsLeft board 0) ≡ tableLength (rows list) * m
@@ -161,7 +187,7 @@ module _ (m : ℕ) (list : TaskList) (e b L : ℕ) (sound : IsSound m (rows list
   shows = shows-same (ap₂ (λ k first. walkOn k board full first 0 0 (setsOn board left 0) (replicate 4096 0) left (full - b)) size (zero-mul (coresOn board)))
       (ap (λ k. limited k (spend (full - b) (walked e (ownInstance m (rows list))))) (omega arith))
       (walk-limited (instance-small list sound-parts) e full board ready (replicate 4096 0) left
-      (subst (Lefts (ownInstance m (rows list)) 0 (nth (replicate 4096 0))) (sym el) (lefts-start list sound-parts e (replicate 4096 0)))
+      (subst (Lefts (ownInstance m (rows list)) 0 (nth (replicate 4096 0))) (sym el) (lefts-start list sound-parts (replicate 4096 0)))
       (rw (length-replicate {A = ℕ} 4096 0) (omega (arith, few, ap (λ n. n * m) eL)))
       (ap length el ∙ filled-length (replicate 32768 0) 0 16384 (workAt (list .work)) ∙ length-replicate {A = ℕ} 32768 0)
       (full - b) (omega arith))
@@ -176,11 +202,13 @@ module _ (m : ℕ) (list : TaskList) (e b L : ℕ) (sound : IsSound m (rows list
             (limited-used (full - b) b (walked e (ownInstance m (rows list))))
 
     -- it tells what the engine's walk does under the limit
-    pub walk-told : (buffer : List ℕ) → L * m ≤ length buffer → (x : Answer) (buffer′ : List ℕ) → Tells (L * m) (full - b) r t buffer buffer′ x
-        → toldOf x buffer′ ≡ walkTold m (rows list) e b buffer
+    pub walk-told : (buffer : List ℕ) → L * m ≤ length buffer → (x : Answer) → ((e : End) (k : ℕ) → r ≡ packed e k → k < 4294967296 → x ≡ answerOf e k (full - b))
+        → (buffer′ : List ℕ) → buffer′ ≡ filled buffer 0 (L * m) (cellLeft (eqb (x .verdict) 0) t) → toldOf x buffer′ ≡ walkTold m (rows list) e b buffer
     unfolding walkTold instanceOf
-    walk-told buffer room x buffer′ tells =
-        told-end (L * m) (full - b) r t l buffer buffer′ end (ran .leaves) (rw (ran .leaves .table) (rw (shows .long) (rw (length-replicate {A = ℕ} 4096 0) few))) room x tells
+    walk-told buffer room x tells buffer′ e′ =
+        let ex = tells (end .end) (end .tries) (ran .leaves .answer) (omega (arith, ran .leaves .most)) in
+        ap₂ toldOf ex (e′ ∙ ap₂ (λ x t. filled buffer 0 (L * m) (cellLeft (eqb (x .verdict) 0) t)) ex (ran .leaves .table))
+        ∙ told-end (end .end) (L * m) (full - b) (end .tries) (end .table) buffer (rw (shows .long) (rw (length-replicate {A = ℕ} 4096 0) few)) room
         ∙ ap (λ k. told (k * m) buffer (less (full - b) (toldAt (end .end) (k * m) 0 (end .table) (end .tries)))) eL
         ∙ ap (λ a. told (tableLength (rows list) * m) buffer (less (full - b) a)) (shows .answer)
         ∙ ap (told (tableLength (rows list) * m) buffer) (limited-less (full - b) b (walked e (ownInstance m (rows list))))

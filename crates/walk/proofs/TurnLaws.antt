@@ -17,8 +17,8 @@ use lib.Count.{trailing-of-zero}
 use Rattle.sets.specs.Sets.{has, ofCore, lowest, without, Alone}
 use Rattle.sets.proofs.SetLaws.{none-has, of-core-has, of-core-alone, of-core-lt, without-has, without-alone, without-lt, lowest-in, lowest-first}
 use Rattle.board.proofs.ReadLaws.{sets-none}
-use Rattle.board.specs.Board.{counterOn, rateOn, evenOn, tasksOn, coresOn, slotsOn, cellsOn, setsOn, floorOn, closesOn}
-use Rattle.walk.specs.Machine.{End, Found, Nothing, Stopped, packed, State, state, Onward, orElse, idleLast, placed, tryFrom, closeThen, walkOn, Fits, Stands, firstOn, cellsLeft, full, Leaves, Ran, Closed}
+use Rattle.board.specs.Board.{counterOn, rateOn, evenOn, tasksOn, coresOn, slotsOn, cellsOn, setsOn, floorOn, closesOn, Fits}
+use Rattle.walk.specs.Machine.{End, Found, Nothing, Stopped, packed, State, state, Onward, orElse, idleLast, placed, tryFrom, closeThen, walkOn, Stands, firstOn, cellsLeft, full, Leaves, Ran, Closed}
 
 -- ---- where the walk stands
 module _ {board : List ℕ} (place : ℕ) (fits : Fits board (place / 4)) where

@@ -8,7 +8,7 @@ use lib.Dec.{leb, ltb, eqb}
 use lib.ListN.{set}
 use Rattle.laws.specs.Lists.{nth}
 use Rattle.sets.specs.Sets.{has, without}
-use Rattle.board.specs.Board.{rateOn, evenOn, tasksOn, coresOn, slotsOn, cellsOn, counterOn, setsOn, floorOn, closesOn}
+use Rattle.board.specs.Board.{rateOn, evenOn, tasksOn, coresOn, slotsOn, cellsOn, counterOn, setsOn, floorOn, closesOn, Fits}
 
 -- how a walk ends
 pub data End : Type 0 where
@@ -83,13 +83,6 @@ unfoldable pub walkOn : ℕ → List ℕ → ℕ → ℕ → ℕ → ℕ → Onw
 walkOn zero board limit first slot core sets t l u = state Nothing t l u
 walkOn (suc k) board limit first slot core sets t l u =
     tryFrom board limit first slot core sets (closeThen board (walkOn k board limit) first slot (core + 1)) (tasksOn board) (floorOn board t first core) t l 0 0 u
-
--- a board of at most 16 tasks, 4 cores and 1024 slots, and one of its slots
-pub record Fits (board : List ℕ) (slot : ℕ) : Type 0 where
-  pub tasks : tasksOn board ≤ 16
-  pub cores : coresOn board ≤ 4
-  pub slots : slotsOn board ≤ 1024
-  pub slot-in : slot < slotsOn board
 
 -- where the walk stands: place slot * 4 + core, with the sets of the tasks that may still stand in the slot
 pub record Stands (board : List ℕ) (place sets : ℕ) : Type 0 where

@@ -6,8 +6,8 @@
 // are counted up to the largest number in place of the limit.
 ghost use mathlib.Core.Path.{_≡_};
 ghost use Prim.Native.Nat.{_-_, _<_};
-ghost use Rattle.board.specs.Board.{setsOn, coresOn};
-ghost use Rattle.walk.specs.Machine.{Fits, Stands, Ran, Closed};
+ghost use Rattle.board.specs.Board.{setsOn, coresOn, Fits};
+ghost use Rattle.walk.specs.Machine.{Stands, Ran, Closed};
 ghost use Rattle.laws.specs.Lists.{nth};
 ghost use lib.ListN.{set};
 use board::CORES;

@@ -52,7 +52,7 @@ use Rattle.lent.proofs.scan.Symbol as scan-def
 use Rattle.lent.proofs.scan.Symbol.{name as #lent·scan}
 use Rattle.lent.proofs.scan.Met as scan-thm
 use Rattle.search.specs.declared.Answer.{Answer}
-use Rattle.search.specs.Board.{toldOf}
+use Rattle.search.specs.Told.{toldOf}
 use Rattle.search.proofs.Answer as D
 use Rattle.search.proofs.Answer.Laws as D′
 use Rattle.planner.proofs.ScanCall.{Scan, scan-says, Tasks, to-scan, goes-scan}

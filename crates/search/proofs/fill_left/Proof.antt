@@ -6,8 +6,8 @@ use borrow.Author.Needs.{needs}
 use native.Mathlib.Omega.{arith}
 use Rattle.laws.specs.Lists.{filled}
 use Rattle.laws.proofs.ListLaws.{filled-none}
-use Rattle.search.specs.Board.{workAt}
-use Rattle.search.proofs.FillLaws.{next-stored, all-stored}
+use Rattle.search.specs.Told.{workAt}
+use Rattle.fill.proofs.FillLaws.{next-stored, all-stored}
 use Rattle.search.proofs.fill_left.Statement.{statement}
 use Rattle.search.proofs.fill_left.Tie as tie
 

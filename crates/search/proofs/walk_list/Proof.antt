@@ -2,9 +2,9 @@
 -- Assumes nothing.
 use borrow.Author.Needs.{needs}
 use native.Mathlib.Omega.{arith}
-use Rattle.search.proofs.FillLaws.{sound-fits}
-use Rattle.search.proofs.ToldLaws.{none, found, stopped, counted-up, walk-told}
-use Rattle.search.proofs.AnswerLaws.{few-cells, board-ready}
+use Rattle.fill.proofs.BoardLaws.{sound-fits, filled-starts}
+use Rattle.search.proofs.AnswerLaws.{few-cells}
+use Rattle.search.proofs.ToldLaws.{counted-up, walk-told}
 use Rattle.search.proofs.walk_list.Statement.{statement}
 use Rattle.search.proofs.walk_list.Tie as tie
 
@@ -12,27 +12,33 @@ fill-board-requires : tie.Need-fill-board-requires
 fill-board-requires c κs = sound-fits _ _ _ (c .before .before .pre .0) (c .before .before .pre .1)
 
 walk-requires : tie.Need-walk-requires
-walk-requires c κs = board-ready _ _ _ _ _ (c .before .before .before .before .before .before .before .before .before .before .pre .0) (c .before .before .before .before .before .before .before .before .before .before .pre .1) (c .before .before .before .before .before .before .before .fill-board .ensures)
+walk-requires c κs =
+    let filled = c .before .before .before .before .before .before in
+    let start = filled .before .before .before in
+    filled-starts _ _ _ _ (start .pre .0) (start .pre .1) _ (filled .fill-board .ensures)
 
-sub-tries : tie.Need-sub-tries
-sub-tries c = omega (arith, counted-up _ _ _ _ _ (c .before .before .before .before .before .before .before .before .before .before .before .pre .0) (c .before .before .before .before .before .before .before .before .before .before .before .pre .1) (c .before .before .before .before .before .before .before .before .before .before .before .fits .limit .fits) _ _ (c .before .before .before .before .before .before .before .before .fill-board .ensures) (c .before .before .before .before .before .fill-left .ensures) _ _ _ (c .walk .ensures))
-
-returns : tie.Need-returns
-returns c = walk-told _ _ _ _ _ (c .before .before .before .before .before .before .before .before .before .before .before .before .before .before .before .before .pre .0) (c .before .before .before .before .before .before .before .before .before .before .before .before .before .before .before .before .pre .1) (c .before .before .before .before .before .before .before .before .before .before .before .before .before .before .before .before .fits .limit .fits) _ _ (c .before .before .before .before .before .before .before .before .before .before .before .before .before .fill-board .ensures) (c .before .before .before .before .before .before .before .before .before .before .fill-left .ensures) _ _ _ (c .before .before .before .before .before .walk .ensures) _ (c .before .before .before .before .before .before .before .before .before .before .before .before .before .before .before .before .pre .3) _ _ (none (c .before .before .before .before .if1 .taken) (c .before .before .clear .ensures))
+told-requires : tie.Need-told-requires
+told-requires c κs =
+    let filled = c .before .before .before .before .before .before .before in
+    let start = filled .before .before .before in
+    counted-up _ _ _ _ _ (start .pre .0) (start .pre .1) (start .fits .limit .fits) _ _ (filled .fill-board .ensures) (c .before .before .before .before .fill-left .ensures) _ _ _ (c .walk .ensures)
 
 hand-over-requires : tie.Need-hand-over-requires
-hand-over-requires c κs = (omega (arith, few-cells _ _ _ (c .before .before .before .before .before .before .before .before .before .before .before .before .before .before .before .pre .0) (c .before .before .before .before .before .before .before .before .before .before .before .before .before .before .before .pre .1)), search needs)
+hand-over-requires c κs =
+    let start = c .before .before .before .before .before .before .before .before .before .before .before .before .before .before .before in
+    (omega (arith, few-cells _ _ _ (start .pre .0) (start .pre .1)), search needs)
 
-returns-2 : tie.Need-returns-2
-returns-2 c = walk-told _ _ _ _ _ (c .before .before .before .before .before .before .before .before .before .before .before .before .before .before .before .before .before .before .pre .0) (c .before .before .before .before .before .before .before .before .before .before .before .before .before .before .before .before .before .before .pre .1) (c .before .before .before .before .before .before .before .before .before .before .before .before .before .before .before .before .before .before .fits .limit .fits) _ _ (c .before .before .before .before .before .before .before .before .before .before .before .before .before .before .before .fill-board .ensures) (c .before .before .before .before .before .before .before .before .before .before .before .before .fill-left .ensures) _ _ _ (c .before .before .before .before .before .before .before .walk .ensures) _ (c .before .before .before .before .before .before .before .before .before .before .before .before .before .before .before .before .before .before .pre .3) _ _ (found (c .before .before .before .before .before .before .if1 .left) (c .before .before .before .before .before .if2 .taken) (c .before .before .hand-over .ensures))
-
-returns-3 : tie.Need-returns-3
-returns-3 c = walk-told _ _ _ _ _ (c .before .before .before .before .before .before .before .before .before .before .before .before .before .before .before .before .before .pre .0) (c .before .before .before .before .before .before .before .before .before .before .before .before .before .before .before .before .before .pre .1) (c .before .before .before .before .before .before .before .before .before .before .before .before .before .before .before .before .before .fits .limit .fits) _ _ (c .before .before .before .before .before .before .before .before .before .before .before .before .before .before .fill-board .ensures) (c .before .before .before .before .before .before .before .before .before .before .before .fill-left .ensures) _ _ _ (c .before .before .before .before .before .before .walk .ensures) _ (c .before .before .before .before .before .before .before .before .before .before .before .before .before .before .before .before .before .pre .3) _ _ (stopped (c .before .before .before .before .if2 .left) (c .before .before .clear2 .ensures))
+returns : tie.Need-returns
+returns c =
+    let walked = c .before .before .before .before .before .before .before .before in
+    let filled = walked .before .before .before .before .before .before .before in
+    let start = filled .before .before .before in
+    walk-told _ _ _ _ _ (start .pre .0) (start .pre .1) (start .fits .limit .fits) _ _ (filled .fill-board .ensures) (walked .before .before .before .before .fill-left .ensures) _ _ _ (walked .walk .ensures)
+    _ (start .pre .3) _ (c .before .before .before .before .before .before .before .told .ensures) _ (c .before .before .hand-over .ensures)
 
 pub walk-list-spec : {M : Type 1} → statement M
 walk-list-spec =
     tie.close
     (tie.spec
-    fill-board-requires (λ c κs. search needs) (λ c. search needs) (λ c. search needs) (λ c. search needs) walk-requires
-    (λ c. search needs) sub-tries (λ c κs. search needs) (λ c. search needs) returns hand-over-requires
-    (λ c. search needs) returns-2 (λ c κs. search needs) (λ c. search needs) returns-3)
+    fill-board-requires (λ c κs. search needs) (λ c. search needs) walk-requires told-requires (λ c. search needs)
+    (λ c. search needs) hand-over-requires (λ c. search needs) returns)

@@ -1,0 +1,229 @@
+-- The board of a sound list is right for the list's instance.
+-- Assumes nothing.
+use Prim.Native.Nat.{ℕ, zero, suc, _+_, _*_, _/_, _%_, _≤_, _<_, min}
+use native.Mathlib.Omega.{arith}
+use native.Mathlib.Nat.{div-le-self, min-le-right}
+use mathlib.Core.Path.{_≡_, refl, sym, ap, ap₂, subst, _∙_}
+use mathlib.Core.Logic.{_≢_, _⊎_, inl, inr, ⊎-elim}
+use mathlib.Core.Bool.{Bool, true, false, not, _&&_}
+use mathlib.Core.List.{List}
+use lib.Dec.{T, eqb, eqb→eq, leb, ltb}
+use borrow.Author.Tests.{lt-ltb}
+use lib.ListN.{length, replicate, length-replicate}
+use lib.Arith.{digits-div, digits-mod}
+use Rattle.laws.specs.Sum.{gate}
+use Rattle.laws.specs.Tests.{all}
+use Rattle.laws.specs.Lists.{nth, filled}
+use Rattle.laws.proofs.SumLaws.{lt-or-ge}
+use Rattle.laws.proofs.TestLaws.{all-same, all-at, at-all, imp-make}
+use Rattle.laws.proofs.ListLaws.{seek-before, filled-length, filled-at, filled-before}
+use Rattle.tasks.specs.declared.Task.{Task}
+use Rattle.tasks.specs.declared.TaskList.{TaskList}
+use Rattle.tasks.specs.Task.{task, rate, taskAt, rows}
+use Rattle.tasks.specs.Refusal.{IsSound, tableLength}
+use Rattle.tasks.specs.Window.{isJobs}
+use Rattle.tasks.specs.Instance.{jobSlot, instanceOf}
+use Rattle.tasks.proofs.SoundLaws.{rows-length, rows-task, SoundList, sound-list, length-whole, sound-cyclic, instance-regular}
+use Rattle.tasks.proofs.WindowLaws.{job-slot, highest-passes}
+use Rattle.rules.specs.Rules.{evenRates, twin}
+use Rattle.rules.specs.Right.{ownInstance}
+use Rattle.sets.specs.Sets.{has}
+use Rattle.board.specs.Board.{tasksOn, coresOn, slotsOn, Fits}
+use Rattle.board.specs.Ready.{Small, entryOf, isQuick, Ready}
+use Rattle.board.proofs.ReadyLaws.{test-same}
+use Rattle.fill.specs.Board.{Fit, entryFor, gridEntry, evenPair, pairEven, rowEven, coresTwin, quickMark, fitMark, evens, twins, tasks, cores, slots, fits, marks, markAt, endMark, unmarkedOf, boardOf}
+use Rattle.fill.proofs.FillLaws.{at-rate, at-even, at-twin, at-tasks, at-cores, at-slots, at-fit}
+use Rattle.fill.proofs.FitLaws.{mark-has, up-to-15}
+
+-- ---- the list's instance
+-- what a sound list has for the board
+pub sound-fits : (list : TaskList) (m L : ℕ) → IsSound m (rows list) → L ≡ tableLength (rows list)
+    → (list .n ≤ 16) × (L ≤ 1024) × ((k : ℕ) → k < list .n → Fit L (taskAt list k))
+sound-fits list m L s e =
+    let sound = sound-list m (rows list) s in
+    (omega (arith, rows-length list), omega arith, λ k l. rw (← rows-task list k l, e) (task-fits sound (suc k) (omega arith) (omega (arith, rows-length list))))
+  where
+    task-fits : SoundList m (rows list) → (i : ℕ) → i ≢ 0 → i ≤ length (rows list) → Fit (tableLength (rows list)) (task (rows list) i)
+    task-fits sound i x l = record {
+      few-slots = sound .few-slots;
+      offset-le = sound .in-range i x l .offset-le;
+      cyclic = sound-cyclic sound (length-whole sound) i x l;
+    }
+
+module _ {m : ℕ} (list : TaskList) (s : SoundList m (rows list)) where
+  -- its instance fits the arrays, and each of its jobs has a slot
+  pub instance-small : Small (ownInstance m (rows list))
+  unfolding instanceOf isJobs
+  instance-small = record {
+    regular = instance-regular s (length-whole s);
+    few-slots = s .few-slots;
+    few-cores = s .few-cores;
+    few-tasks = s .few-tasks;
+    few-jobs = λ i x l. omega (arith, div-le-self (tableLength (rows list)) (task (rows list) i .period .0), s .few-slots);
+    job-ends = λ i k x l h.
+        let w = job-slot (sound-cyclic s (length-whole s) i x l) (task (rows list) i .offset .0) k h in
+        highest-passes (tableLength (rows list)) (jobSlot (ownInstance m (rows list)) i k) (w .0) (w .1) (w .2);
+  }
+
+-- ---- reading the board
+module _ (list : TaskList) (m e L : ℕ) (few : L ≤ 1024) where
+  grid : List ℕ
+  grid = filled (replicate 17763 0) 0 (L * 16) (gridEntry list L)
+
+  unmarked : List ℕ
+  unmarked = unmarkedOf list m e L (replicate 17763 0)
+
+  board : List ℕ
+  board = boardOf list m e L (replicate 17763 0)
+
+  grid-length : length grid ≡ 17763
+  unfolding grid
+  grid-length = filled-length (replicate 17763 0) 0 (L * 16) (gridEntry list L) ∙ length-replicate {A = ℕ} 17763 0
+
+  unmarked-length : length unmarked ≡ 17763
+  unfolding unmarked unmarkedOf grid
+  unmarked-length = filled-length grid 16384 marks (markAt list m e L) ∙ grid-length
+
+  -- below the marks of ends
+  below-ends : (x : ℕ) → x < 16739 → nth board x ≡ nth unmarked x
+  unfolding board boardOf unmarked
+  below-ends x l = filled-before unmarked 16739 L (endMark unmarked (list .n)) x l
+
+  -- the grid
+  at-grid : (x : ℕ) → x < L * 16 → nth board x ≡ gridEntry list L x
+  unfolding unmarked unmarkedOf grid
+  at-grid x l = below-ends x (omega arith)
+      ∙ filled-before grid 16384 marks (markAt list m e L) x (omega arith)
+      ∙ ap (nth grid) (omega arith)
+      ∙ filled-at (replicate 17763 0) 0 (L * 16) (gridEntry list L) x l (rw (length-replicate {A = ℕ} 17763 0) (omega arith))
+
+  -- the marks
+  at-mark : (p x : ℕ) → p ≡ 16384 + x → x < marks → nth board p ≡ markAt list m e L x
+  unfolding unmarked unmarkedOf grid
+  at-mark p x z l = ap (nth board) z ∙ below-ends (16384 + x) (omega arith) ∙ filled-at grid 16384 marks (markAt list m e L) x l (rw grid-length (omega arith))
+
+  -- before the mark no entry of the slot is odd
+  at-ends : (t v : ℕ) → t < L → v < list .n → list .n ≤ 16 → v < nth board (16739 + t) → nth board (t * 16 + v) % 2 ≡ 0
+  unfolding board boardOf unmarked endMark
+  at-ends t v lt lv ln before = ap (λ x. x % 2) (below-ends (t * 16 + v) (omega arith))
+      ∙ seek-before (list .n) (λ v. nth unmarked (t * 16 + v) % 2) v (omega (arith, filled-at unmarked 16739 L (endMark unmarked (list .n)) t lt (rw unmarked-length (omega arith))))
+
+-- ---- the list's rates
+-- the rate on a core, in the flat list
+row-at : (list : TaskList) (k j : ℕ) → j < 4 → rate (taskAt list k) j ≡ nth (list .rates) (k * 4 + j)
+unfolding taskAt
+row-at list k zero l = ap (nth (list .rates)) (omega arith)
+row-at list k (suc zero) l = refl
+row-at list k (suc (suc zero)) l = refl
+row-at list k (suc (suc (suc zero))) l = refl
+row-at list k (suc (suc (suc (suc j)))) l = absurd (omega arith)
+
+-- an entry of the instance is that of the task
+entry-same : (L m : ℕ) (ts : List Task) (i t : ℕ) → entryFor L (task ts i) i t ≡ entryOf (instanceOf L m ts) i t
+unfolding entryFor entryOf instanceOf isJobs
+entry-same L m ts i t = refl
+
+-- the grid's entry of a task in a slot
+grid-at : (list : TaskList) (L t v : ℕ) → v < 16 → v < list .n → gridEntry list L (t * 16 + v) ≡ entryFor L (taskAt list v) (suc v) t
+unfolding gridEntry
+grid-at list L t v lv ln = rw (digits-mod t lv, digits-div t lv, lt-ltb v (list .n) ln)
+
+-- a rate of 0 is even with each
+zero-even : (x y : ℕ) → (x ≡ 0) ⊎ (y ≡ 0) → T (evenPair x y)
+unfolding evenPair
+zero-even x y z = imp-make (ltb 0 x) _ (λ t. imp-make (ltb 0 y) _ (λ u. ⊎-elim
+    (λ h. absurd (subst (λ x. T (ltb 0 x)) h t))
+    (λ h. absurd (subst (λ y. T (ltb 0 y)) h u))
+    z))
+
+-- four rates, 0 from m on: each is even with each if those below m are
+few-even : (m : ℕ) (r : ℕ → ℕ) → m ≤ 4 → ((j : ℕ) → m ≤ j → j < 4 → r j ≡ 0)
+    → all 16 (λ x. evenPair (r (x / 4)) (r (x % 4))) ≡ all m (λ a. all m (λ b. evenPair (r a) (r b)))
+few-even m r l beyond = test-same _ _
+    (λ t. at-all m (λ a. all m (λ b. evenPair (r a) (r b))) (λ a la. at-all m (λ b. evenPair (r a) (r b)) (λ b lb. let k : b < 4 = omega arith in
+    subst T (ap₂ (λ i j. evenPair (r i) (r j)) (digits-div a k) (digits-mod a k)) (all-at 16 (λ x. evenPair (r (x / 4)) (r (x % 4))) t (a * 4 + b) (omega arith)))))
+    (λ t. at-all 16 (λ x. evenPair (r (x / 4)) (r (x % 4))) (λ x lx. ⊎-elim
+    (λ la. ⊎-elim
+    (λ lb. all-at m (λ b. evenPair (r (x / 4)) (r b)) (all-at m (λ a. all m (λ b. evenPair (r a) (r b))) t (x / 4) la) (x % 4) lb)
+    (λ lb. zero-even (r (x / 4)) (r (x % 4)) (inr (beyond (x % 4) lb (omega arith))))
+    (lt-or-ge (x % 4) m))
+    (λ la. zero-even (r (x / 4)) (r (x % 4)) (inl (beyond (x / 4) la (omega arith))))
+    (lt-or-ge (x / 4) m)))
+
+module _ {m : ℕ} (list : TaskList) (s : SoundList m (rows list)) (e : ℕ) where
+  -- a task of the instance is one of the list's
+  pub is-task : (v : ℕ) → v < length (rows list) → (v < list .n) × (task (rows list) (suc v) ≡ taskAt list v)
+  is-task v l = let k : v < list .n = rw (rows-length list) at l in (k, rows-task list v k)
+
+  -- and so are its rates
+  rate-same : (v j : ℕ) → v < length (rows list) → j < 4 → nth (list .rates) (v * 4 + j) ≡ rate (task (rows list) (suc v)) j
+  rate-same v j l lj = sym (ap (λ τ. rate τ j) (is-task v l .1) ∙ row-at list v j lj)
+
+  -- rule A's test
+  even-same : (v : ℕ) → v < length (rows list) → rowEven (list .rates) v ≡ evenRates (ownInstance m (rows list)) (suc v)
+  unfolding rowEven pairEven evenPair evenRates instanceOf
+  even-same v l =
+      few-even m (λ j. nth (list .rates) (v * 4 + j)) (s .few-cores) (λ j k lj. rate-same v j l lj ∙ s .in-range (suc v) (omega arith) l .rate-beyond j k lj)
+      ∙ all-same m _ _ (λ a la. all-same m _ _ (λ b lb. ap₂ evenPair (rate-same v a l (omega (arith, s .few-cores))) (rate-same v b l (omega (arith, s .few-cores)))))
+
+  -- rule B's
+  twin-same : (a b : ℕ) → a < 4 → b < 4 → coresTwin (list .n) (list .rates) a b ≡ twin (ownInstance m (rows list)) a b
+  unfolding coresTwin twin instanceOf
+  twin-same a b la lb = ap (λ n. all n (λ v. eqb (nth (list .rates) (v * 4 + a)) (nth (list .rates) (v * 4 + b)))) (sym (rows-length list))
+      ∙ all-same (length (rows list)) _ _ (λ v l. ap₂ eqb (rate-same v a l la) (rate-same v b l lb))
+
+  -- the marks of the list's own table
+  mark-at : (p x : ℕ) → p ≡ 16384 + x → x < marks → nth (boardOf list m e (tableLength (rows list)) (replicate 17763 0)) p ≡ markAt list m e (tableLength (rows list)) x
+  unfolding board
+  mark-at = at-mark list m e (tableLength (rows list)) (s .few-slots)
+
+  -- the board is ready for the instance
+  pub board-ready : Ready (ownInstance m (rows list)) e (boardOf list m e (tableLength (rows list)) (replicate 17763 0))
+  unfolding board instanceOf quickMark
+  board-ready = record {
+    slots = mark-at 16482 slots refl (omega arith) ∙ at-slots _ _ _ _ _ refl;
+    cores = mark-at 16481 cores refl (omega arith) ∙ at-cores _ _ _ _ _ refl;
+    tasks = mark-at 16480 tasks refl (omega arith) ∙ at-tasks _ _ _ _ _ refl ∙ sym (rows-length list);
+    entries = λ t v lt lv. let k = is-task v lv in
+        at-grid list m e (tableLength (rows list)) (s .few-slots) (t * 16 + v) (omega (arith, rows-length list, s .few-tasks))
+        ∙ grid-at list (tableLength (rows list)) t v (omega (arith, rows-length list, s .few-tasks)) (k .0)
+        ∙ ap (λ τ. entryFor (tableLength (rows list)) τ (suc v) t) (sym (k .1)) ∙ entry-same (tableLength (rows list)) m (rows list) (suc v) t;
+    ends = λ t v lt lv z.
+        at-ends list m e (tableLength (rows list)) (s .few-slots) t v lt (is-task v lv .0) (omega (arith, rows-length list, s .few-tasks)) z;
+    rates = λ v j lv lj. let few : j < 4 = omega (arith, s .few-cores) in let small : v < 16 = omega (arith, s .few-tasks) in
+        mark-at (16384 + (v * 4 + j)) (v * 4 + j) refl (omega arith) ∙ at-rate _ _ _ _ _ (omega arith) ∙ rate-same v j lv few;
+    fits = λ v j w lv lj. let few : j < 4 = omega (arith, s .few-cores) in let small : v < 16 = omega (arith, s .few-tasks) in
+        let cap : min w 15 < 16 = omega (arith, min-le-right w 15) in
+        ap (λ x. has (x % 16) 0 j) (mark-at (16483 + (v * 16 + min w 15)) (fits + (v * 16 + min w 15)) (omega arith) (omega arith) ∙ at-fit _ _ _ _ _ _ refl)
+        ∙ mark-has (list .rates) v (min w 15) j cap few
+        ∙ ap (λ r. ltb 0 r && leb r (min w 15)) (rate-same v j lv few)
+        ∙ ap (λ b. ltb 0 (rate (task (rows list) (suc v)) j) && b)
+        (up-to-15 (rate (task (rows list) (suc v)) j) w (s .in-range (suc v) (omega arith) lv .rate-le j few));
+    evens = λ v lv. let small : v < 16 = omega (arith, s .few-tasks) in
+        mark-at (16448 + v) (evens + v) (omega arith) (omega arith) ∙ at-even _ _ _ _ _ _ refl small ∙ ap (λ b. gate (isQuick e && b) 1) (even-same v lv);
+    twins = λ a j la lj. let few : a < 4 = omega (arith, s .few-cores) in let less : j < 4 = omega arith in
+        mark-at (16464 + (a * 4 + j)) (twins + (a * 4 + j)) (omega arith) (omega arith) ∙ at-twin _ _ _ _ _ _ refl (omega arith)
+        ∙ ap (λ b. gate (isQuick e && b) 1) (ap₂ (coresTwin (list .n) (list .rates)) (digits-mod a less) (digits-div a less) ∙ twin-same j a less few);
+  }
+
+-- ---- what the walk asks of a board that was filled
+module _ (m : ℕ) (list : TaskList) (e L : ℕ) (sound : IsSound m (rows list)) (eL : L ≡ tableLength (rows list))
+    (board : List ℕ) (eb : board ≡ boardOf list m e L (replicate 17763 0)) where
+  -- it is the instance's
+  pub filled-ready : Ready (ownInstance m (rows list)) e board
+  filled-ready = subst (Ready (ownInstance m (rows list)) e) (sym (eb ∙ ap (λ n. boardOf list m e n (replicate 17763 0)) eL)) (board-ready list (sound-list m (rows list) sound) e)
+
+  -- and has a first cell
+  pub filled-starts : Fits board 0 × (0 < coresOn board)
+  unfolding instanceOf
+  filled-starts =
+      let s = sound-list m (rows list) sound in
+      let r = filled-ready in (
+        record {
+          tasks = omega (arith, r .tasks, s .few-tasks);
+          cores = omega (arith, r .cores, s .few-cores);
+          slots = omega (arith, r .slots, s .few-slots);
+          slot-in = omega (arith, r .slots, s .some-slot);
+        },
+        omega (arith, r .cores, s .some-core),
+      )

@@ -1,0 +1,226 @@
+-- What stands on the board, as the code finds it: entries of the grid, marks of rules A and B, and the loops that store them.
+-- Assumes nothing.
+use Prim.Native.Nat.{ℕ, zero, suc, _+_, _*_, _-_, _/_, _%_, _≤_, _<_}
+use mathlib.Core.Path.{_≡_, refl, sym, ap, _∙_}
+use mathlib.Core.Logic.{_≢_}
+use mathlib.Core.Bool.{Bool, true, false, not, _&&_}
+use mathlib.Core.List.{List}
+use native.Mathlib.Omega.{arith}
+use native.Mathlib.Nat.{zero-add, mul-le-mul-left}
+use lib.Dec.{eqb}
+use lib.ListN.{set}
+use borrow.Author.Tests.{lt-ltb, le-ltb, eq-eqb, ne-eqb}
+use Rattle.laws.specs.Sum.{gate}
+use Rattle.laws.specs.Tests.{all}
+use Rattle.laws.specs.Lists.{nth, filled}
+use Rattle.laws.proofs.TestLaws.{all-false, all-true, all-same}
+use Rattle.laws.proofs.ListLaws.{seek-is, seek-none, seek-same, filled-before, filled-next}
+use Rattle.tasks.specs.declared.Task.{Task}
+use Rattle.tasks.specs.declared.TaskList.{TaskList}
+use Rattle.tasks.specs.declared.Window.{Window}
+use Rattle.tasks.specs.declared.Window.the-variants.{Open, Closed}
+use Rattle.tasks.specs.Task.{taskAt}
+use Rattle.tasks.specs.Window.{isOpen, jobAt, lastSlot, openIf, windowAt}
+use Rattle.tasks.proofs.WindowLaws.{pos-T, job-lt}
+use Rattle.board.specs.Ready.{isQuick}
+use Rattle.fill.specs.Board.{Fit, entryFor, gridEntry, evenPair, pairEven, rowEven, coresTwin, quickMark, fitMark, evens, twins, tasks, cores, slots, fits, marks, markAt, endMark, unmarkedOf, boardOf}
+
+-- ---- places stored one after the other
+module _ (s : List ℕ) (g : ℕ → ℕ) where
+  -- one more, from place 0 on
+  pub next-stored : (n : ℕ) (r : List ℕ) (x : ℕ) → r ≡ filled s 0 n g → x ≡ g n → set r n x ≡ filled s 0 (n + 1) g
+  next-stored n r x er ex = rw (zero-add n) at (filled-next s 0 n g r x er ex)
+
+  -- all of them
+  pub all-stored : (a n i : ℕ) (r : List ℕ) → i ≤ n → n ≤ i → r ≡ filled s a i g → r ≡ filled s a n g
+  all-stored a n i r l m e = e ∙ ap (λ k. filled s a k g) (omega arith)
+
+-- ---- tests below a bound
+module _ (n : ℕ) (f : ℕ → Bool) where
+  -- one of them, r, fails
+  pub one-fails : (k : ℕ) (r : Bool) → k < n → r ≡ f k → r ≡ false → false ≡ all n f
+  one-fails k r l e x = sym (all-false n f k l (sym e ∙ x))
+
+  -- all those before i pass, and i is the bound
+  pub none-fails : (i : ℕ) → n ≤ i → ((k : ℕ) → k < i → f k ≡ true) → true ≡ all n f
+  none-fails i l h = sym (all-true n f (λ k m. h k (omega arith)))
+
+-- ---- the entry of a task in slot t of L, from the window w that is told
+module _ (L t : ℕ) (τ : Task) where
+  -- the window is open: for the job at t
+  open-told : (k : ℕ) (w : Window) → w ≡ windowAt L τ t → w ≡ Open k
+      → (isOpen L (τ .offset .0) (τ .deadline .0) (τ .period .0) t ≡ true) × (k ≡ jobAt L (τ .offset .0) (τ .period .0) t)
+  unfolding windowAt
+  open-told k w e f = go (isOpen L (τ .offset .0) (τ .deadline .0) (τ .period .0) t) (sym e ∙ f)
+    where
+      go : (b : Bool) → openIf b (jobAt L (τ .offset .0) (τ .period .0) t) ≡ Open k → (b ≡ true) × (k ≡ jobAt L (τ .offset .0) (τ .period .0) t)
+      go true h = (refl, cc)
+      go false h = let z : _≡_ {A = ℕ} 0 1 = cc in absurd (omega arith)
+
+  -- the window is closed
+  closed-told : (w : Window) → w ≡ windowAt L τ t → w ≡ Closed → isOpen L (τ .offset .0) (τ .deadline .0) (τ .period .0) t ≡ false
+  unfolding windowAt
+  closed-told w e f = go (isOpen L (τ .offset .0) (τ .deadline .0) (τ .period .0) t) (sym e ∙ f)
+    where
+      go : (b : Bool) → openIf b (jobAt L (τ .offset .0) (τ .period .0) t) ≡ Closed → b ≡ false
+      go true h = let z : _≡_ {A = ℕ} 0 1 = cc in absurd (omega arith)
+      go false h = refl
+
+  -- the job that is told is one of the table's
+  pub told-job : (k : ℕ) (w : Window) → Fit L τ → w ≡ windowAt L τ t → w ≡ Open k → (k < L / τ .period .0) × (k < 1024)
+  told-job k w fit e f =
+      let l : k < L / τ .period .0 = omega (arith, open-told k w e f .1, job-lt (fit .cyclic) (τ .offset .0) t) in
+      (l, omega (arith, fit .few-slots, fit .cyclic .cycle, mul-le-mul-left (L / τ .period .0) (pos-T (fit .cyclic))))
+
+  -- its highest-numbered slot
+  pub entry-end : (v k last : ℕ) (w : Window) → w ≡ windowAt L τ t → w ≡ Open k → last ≡ lastSlot L (τ .offset .0) (τ .deadline .0) (τ .period .0) k → last ≡ t
+      → 2 * (k * 16 + v) + 1 ≡ entryFor L τ (suc v) t
+  unfolding entryFor gate
+  entry-end v k last w e f el here =
+      let told = open-told k w e f in
+      rw (told .0, ← told .1, ← el, eq-eqb last t here)
+
+  -- an earlier one
+  pub entry-early : (v k last : ℕ) (w : Window) → w ≡ windowAt L τ t → w ≡ Open k → last ≡ lastSlot L (τ .offset .0) (τ .deadline .0) (τ .period .0) k → last ≢ t
+      → 2 * (k * 16 + v) ≡ entryFor L τ (suc v) t
+  unfolding entryFor gate
+  entry-early v k last w e f el other =
+      let told = open-told k w e f in
+      rw (told .0, ← told .1, ← el, ne-eqb last t other) (omega arith)
+
+  -- no job's
+  pub entry-closed : (v : ℕ) (w : Window) → w ≡ windowAt L τ t → w ≡ Closed → 32768 ≡ entryFor L τ (suc v) t
+  unfolding entryFor
+  entry-closed v w e f = rw (closed-told w e f)
+
+-- ---- the grid
+-- a task that was read
+pub read-fits : (L k : ℕ) (list : TaskList) (τ : Task) → τ ≡ taskAt list k → Fit L (taskAt list k) → Fit L τ
+read-fits L k list τ e fit = rw e fit
+
+module _ (list : TaskList) (L x : ℕ) where
+  -- the place of a task
+  pub grid-task : (r : ℕ) (τ : Task) → x % 16 < list .n → τ ≡ taskAt list (x % 16) → r ≡ entryFor L τ (suc (x % 16)) (x / 16) → r ≡ gridEntry list L x
+  unfolding gridEntry
+  grid-task r τ l t e = e ∙ ap (λ τ. entryFor L τ (suc (x % 16)) (x / 16)) t ∙ rw (lt-ltb (x % 16) (list .n) l)
+
+  -- a place behind the last
+  pub grid-none : list .n ≤ x % 16 → 0 ≡ gridEntry list L x
+  unfolding gridEntry
+  grid-none l = rw (le-ltb (x % 16) (list .n) l)
+
+-- ---- two rates
+module _ (x y : ℕ) where
+  -- the one is 0
+  pub first-zero : x ≡ 0 → true ≡ evenPair x y
+  unfolding evenPair
+  first-zero z = rw (le-ltb 0 x (omega arith))
+
+  -- the other is
+  pub second-zero : x ≢ 0 → y ≡ 0 → true ≡ evenPair x y
+  unfolding evenPair
+  second-zero a z = rw (lt-ltb 0 x (omega arith), le-ltb 0 y (omega arith))
+
+  -- neither is
+  pub both-positive : x ≢ 0 → y ≢ 0 → eqb x y ≡ evenPair x y
+  unfolding evenPair
+  both-positive a b = rw (lt-ltb 0 x (omega arith), lt-ltb 0 y (omega arith))
+
+-- one pair of a task's rates is not even
+pub pair-fails : (rates : List ℕ) (v x : ℕ) (r : Bool) → x < 16 → r ≡ evenPair (nth rates (v * 4 + x / 4)) (nth rates (v * 4 + x % 4)) → r ≡ false → false ≡ rowEven rates v
+unfolding rowEven pairEven
+pair-fails rates v x r l e f = one-fails 16 (pairEven rates v) x r l e f
+
+-- ---- a mark of the quick engine
+module _ (e : ℕ) (b : Bool) where
+  -- the plain engine has none
+  pub plain-mark : e ≡ 0 → 0 ≡ quickMark e b
+  unfolding quickMark gate
+  plain-mark z = rw z
+
+  -- the quick engine has it where the test passes
+  pub quick-one : e ≢ 0 → b ≡ true → 1 ≡ quickMark e b
+  unfolding quickMark gate
+  quick-one x t = go e x
+    where
+      go : (e : ℕ) → e ≢ 0 → 1 ≡ gate (isQuick e && b) 1
+      go zero x = absurd (x refl)
+      go (suc e) x = rw t
+
+  pub quick-none : e ≢ 0 → b ≡ false → 0 ≡ quickMark e b
+  unfolding quickMark gate
+  quick-none x t = go e x
+    where
+      go : (e : ℕ) → e ≢ 0 → 0 ≡ gate (isQuick e && b) 1
+      go zero x = absurd (x refl)
+      go (suc e) x = rw t
+
+-- ---- the marks, by their places
+module _ (list : TaskList) (m e L x : ℕ) where
+  -- a rate
+  pub at-rate : x < evens → markAt list m e L x ≡ nth (list .rates) x
+  unfolding markAt
+  at-rate l = rw (lt-ltb x evens l)
+
+  -- rule A's
+  pub at-even : (v : ℕ) → x ≡ evens + v → v < 16 → markAt list m e L x ≡ quickMark e (rowEven (list .rates) v)
+  unfolding markAt
+  at-even v z l = rw (le-ltb x evens (omega arith), lt-ltb x twins (omega arith)) (ap (λ v. quickMark e (rowEven (list .rates) v)) (omega arith))
+
+  -- rule B's
+  pub at-twin : (y : ℕ) → x ≡ twins + y → y < 16 → markAt list m e L x ≡ quickMark e (coresTwin (list .n) (list .rates) (y % 4) (y / 4))
+  unfolding markAt
+  at-twin y z l =
+      rw (le-ltb x evens (omega arith), le-ltb x twins (omega arith), lt-ltb x tasks (omega arith))
+      (ap (λ y. quickMark e (coresTwin (list .n) (list .rates) (y % 4) (y / 4))) (omega arith))
+
+  -- the tasks
+  pub at-tasks : x ≡ tasks → markAt list m e L x ≡ list .n
+  unfolding markAt
+  at-tasks z = rw z
+
+  -- the cores
+  pub at-cores : x ≡ cores → markAt list m e L x ≡ m
+  unfolding markAt
+  at-cores z = rw z
+
+  -- the slots
+  pub at-slots : x ≡ slots → markAt list m e L x ≡ L
+  unfolding markAt
+  at-slots z = rw z
+
+  -- the cores on which a rate fits
+  pub at-fit : (y : ℕ) → x ≡ fits + y → markAt list m e L x ≡ fitMark (list .rates) y
+  unfolding markAt
+  at-fit y z =
+      rw (
+        le-ltb x evens (omega arith),
+        le-ltb x twins (omega arith),
+        le-ltb x tasks (omega arith),
+        ne-eqb x tasks (omega arith),
+        ne-eqb x cores (omega arith),
+        ne-eqb x slots (omega arith),
+      ) (ap (fitMark (list .rates)) (omega arith))
+
+-- ---- the board
+pub board-filled : (list : TaskList) (m e L : ℕ) (s grid marked ends : List ℕ) → grid ≡ filled s 0 (L * 16) (gridEntry list L)
+    → marked ≡ filled grid 16384 marks (markAt list m e L) → ends ≡ filled marked 16739 L (endMark marked (list .n)) → ends ≡ boardOf list m e L s
+unfolding boardOf unmarkedOf
+board-filled list m e L s grid marked ends eg em ee = rw (ee, em, eg)
+
+-- ---- the slots in which jobs end
+module _ (board : List ℕ) (n t : ℕ) where
+  -- v is the first
+  pub first-ends : (v : ℕ) → v < n → ((k : ℕ) → k < v → nth board (t * 16 + k) % 2 ≡ 0) → nth board (t * 16 + v) % 2 ≢ 0 → v ≡ endMark board n t
+  unfolding endMark
+  first-ends v l none x = sym (seek-is n v _ l none x)
+
+  -- none does
+  pub none-ends : ((v : ℕ) → v < n → nth board (t * 16 + v) % 2 ≡ 0) → n ≡ endMark board n t
+  unfolding endMark
+  none-ends none = sym (seek-none n _ none)
+
+-- the marks filled in before change none
+pub ends-same : (board now : List ℕ) (n k t r : ℕ) → n ≤ 16 → t < 1024 → now ≡ filled board 16739 k (endMark board n) → r ≡ endMark now n t → r ≡ endMark board n t
+unfolding endMark
+ends-same board now n k t r ln lt e h = h ∙ seek-same n _ _ (λ v l. ap (λ x. x % 2) (ap (λ b. nth b (t * 16 + v)) e ∙ filled-before board 16739 k (endMark board n) (t * 16 + v) (omega arith)))

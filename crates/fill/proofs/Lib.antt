@@ -1,0 +1,4 @@
+pub mod FillLaws
+pub mod FitLaws
+pub mod BoardLaws
+pub mod Calls

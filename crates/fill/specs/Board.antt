@@ -1,0 +1,108 @@
+-- What stands on the board of a list.
+-- Assumes nothing.
+use Prim.Native.Nat.{ℕ, suc, _+_, _*_, _-_, _/_, _%_, _≤_}
+use mathlib.Core.Bool.{Bool, cond, not, _&&_}
+use mathlib.Core.List.{List}
+use lib.Dec.{leb, ltb, eqb}
+use Rattle.laws.specs.Sum.{gate}
+use Rattle.laws.specs.Tests.{all, imp}
+use Rattle.laws.specs.Lists.{nth, seek, filled}
+use Rattle.tasks.specs.declared.Task.{Task}
+use Rattle.tasks.specs.declared.TaskList.{TaskList}
+use Rattle.tasks.specs.Task.{taskAt}
+use Rattle.tasks.specs.Window.{isOpen, jobAt, lastSlot, Cyclic}
+use Rattle.board.specs.Ready.{counterOf, closedCounter, isQuick}
+
+-- a task whose windows fit a table of L slots
+pub record Fit (L : ℕ) (τ : Task) : Type 0 where
+  pub few-slots : L ≤ 1024
+  pub offset-le : τ .offset .0 ≤ 1023
+  pub cyclic : Cyclic L (τ .deadline .0) (τ .period .0) (L / τ .period .0)
+
+-- the entry of a task, of number i, in slot t
+unfoldable pub entryFor : ℕ → Task → ℕ → ℕ → ℕ
+entryFor L τ i t =
+    cond (isOpen L (τ .offset .0) (τ .deadline .0) (τ .period .0) t)
+    (2 * counterOf i (jobAt L (τ .offset .0) (τ .period .0) t)
+    + gate (eqb (lastSlot L (τ .offset .0) (τ .deadline .0) (τ .period .0) (jobAt L (τ .offset .0) (τ .period .0) t)) t) 1)
+    (2 * closedCounter)
+
+-- the grid, sixteen places a slot
+unfoldable pub gridEntry : TaskList → ℕ → ℕ → ℕ
+gridEntry list L x = cond (ltb (x % 16) (list .n)) (entryFor L (taskAt list (x % 16)) (suc (x % 16)) (x / 16)) 0
+
+-- two rates are equal, if both are positive
+unfoldable pub evenPair : ℕ → ℕ → Bool
+evenPair x y = imp (ltb 0 x) (imp (ltb 0 y) (eqb x y))
+
+-- the rates of task v on cores x / 4 and x % 4
+unfoldable pub pairEven : List ℕ → ℕ → ℕ → Bool
+pairEven rates v x = evenPair (nth rates (v * 4 + x / 4)) (nth rates (v * 4 + x % 4))
+
+-- all positive rates of task v are equal
+unfoldable pub rowEven : List ℕ → ℕ → Bool
+rowEven rates v = all 16 (pairEven rates v)
+
+-- two cores have equal rates for every task
+unfoldable pub coresTwin : ℕ → List ℕ → ℕ → ℕ → Bool
+coresTwin n rates a b = all n (λ v. eqb (nth rates (v * 4 + a)) (nth rates (v * 4 + b)))
+
+-- the mark of a test that the quick engine alone makes
+unfoldable pub quickMark : ℕ → Bool → ℕ
+quickMark e b = gate (isQuick e && b) 1
+
+-- 1 if a rate is positive and within so much work
+unfoldable pub fitBit : ℕ → ℕ → ℕ
+fitBit rate w = gate (ltb 0 rate && leb rate w) 1
+
+-- the cores, as bits, on which the rate of task x / 16 is positive and within work x % 16
+unfoldable pub fitMark : List ℕ → ℕ → ℕ
+fitMark rates x =
+    let bit : ℕ → ℕ = λ j. fitBit (nth rates (x / 16 * 4 + j)) (x % 16) in
+    bit 0 + 2 * bit 1 + 4 * bit 2 + 8 * bit 3
+
+-- where the parts between the grid and the marks of ends begin, counted from the first of them, the rates
+abbrev pub evens : ℕ
+evens = 64
+
+abbrev pub twins : ℕ
+twins = 80
+
+abbrev pub tasks : ℕ
+tasks = 96
+
+abbrev pub cores : ℕ
+cores = 97
+
+abbrev pub slots : ℕ
+slots = 98
+
+abbrev pub fits : ℕ
+fits = 99
+
+-- and how many places they have
+abbrev pub marks : ℕ
+marks = 355
+
+-- what stands there: the rates, rule A's marks, rule B's, four a core, the tasks, the cores, the slots, and the cores on which rates fit
+unfoldable pub markAt : TaskList → ℕ → ℕ → ℕ → ℕ → ℕ
+markAt list m e L x =
+    cond (ltb x evens) (nth (list .rates) x)
+    (cond (ltb x twins) (quickMark e (rowEven (list .rates) (x - evens)))
+    (cond (ltb x tasks) (quickMark e (coresTwin (list .n) (list .rates) ((x - twins) % 4) ((x - twins) / 4)))
+    (cond (eqb x tasks) (list .n)
+    (cond (eqb x cores) m
+    (cond (eqb x slots) L
+    (fitMark (list .rates) (x - fits)))))))
+
+-- the first task whose job has its highest-numbered slot in this slot of the grid, n if there is none
+unfoldable pub endMark : List ℕ → ℕ → ℕ → ℕ
+endMark grid n t = seek n (λ v. nth grid (t * 16 + v) % 2)
+
+-- the board for a list on m cores in L slots, by engine e, but for the marks of ends
+unfoldable pub unmarkedOf : TaskList → ℕ → ℕ → ℕ → List ℕ → List ℕ
+unmarkedOf list m e L s = filled (filled s 0 (L * 16) (gridEntry list L)) 16384 marks (markAt list m e L)
+
+-- the whole board
+unfoldable pub boardOf : TaskList → ℕ → ℕ → ℕ → List ℕ → List ℕ
+boardOf list m e L s = filled (unmarkedOf list m e L s) 16739 L (endMark (unmarkedOf list m e L s) (list .n))

@@ -1,0 +1,249 @@
+// The board of a sound list: the grid of entries, the marks behind it, and the marks of the slots in which jobs end.
+ghost use mathlib.Core.Path.{_≡_};
+ghost use mathlib.Core.Bool.{Bool};
+ghost use Prim.Native.Nat.{ℕ, suc, _*_, _≤_, _<_, _/_, _%_};
+ghost use Rattle.laws.specs.Lists.{filled};
+ghost use Rattle.tasks.specs.Task.{taskAt};
+ghost use Rattle.fill.specs.Board.{Fit, entryFor, gridEntry, evenPair, rowEven, coresTwin, quickMark, fitBit, fitMark, markAt, endMark, boardOf};
+use board::CORES;
+use board::ENDS;
+use board::EVEN;
+use board::FITS;
+use board::RATES;
+use board::SLOTS;
+use board::TASKS;
+use board::TWINS;
+use tasks::Slots;
+use tasks::Task;
+use tasks::TaskList;
+use tasks::Window;
+
+// Twice the counter of closed slots.
+const CLOSED: u16 = 32768;
+
+// Where the parts between the grid and the marks of ends begin, counted from the first of them, the rates.
+const EVEN_MARKS: usize = EVEN - RATES;
+
+const TWIN_MARKS: usize = TWINS - RATES;
+
+const TASK_COUNT: usize = TASKS - RATES;
+
+const CORE_COUNT: usize = CORES - RATES;
+
+const SLOT_COUNT: usize = SLOTS - RATES;
+
+const FIT_MARKS: usize = FITS - RATES;
+
+// And how many places they have.
+const MARKS: usize = ENDS - RATES;
+
+// The board's entry for the task at place v in a slot.
+fn entry(len: Slots, t: Task, v: u16, slot: Slots) -> u16
+    requires { ⌜ Fit (len .0) t × (v < 16) × (slot .0 < len .0) ⌝ }
+    ensures { λ r. ⌜ r ≡ entryFor (len .0) t (suc v) (slot .0) ⌝ }
+{
+    let window = tasks::open_in(len, t, slot);
+    match window {
+        Window::Open(job) => {
+            let last = tasks::last_slot(len, t, job);
+            let counter = job * 16 + v;
+            if last.0 == slot.0 {
+                2 * counter + 1
+            } else {
+                2 * counter
+            }
+        }
+        Window::Closed => CLOSED,
+    }
+}
+
+// What stands at place x of the grid: sixteen tasks a slot.
+fn grid_entry(list: TaskList, len: Slots, x: usize) -> u16
+    requires { ⌜ (list .n ≤ 16) × ((k : ℕ) → k < list .n → Fit (len .0) (taskAt list k)) × (x < len .0 * 16) ⌝ }
+    ensures { λ r. ⌜ r ≡ gridEntry list (len .0) x ⌝ }
+{
+    let v = x % 16;
+    if v < list.n as usize {
+        entry(
+            len,
+            tasks::task_at(list, v),
+            v as u16,
+            Slots((x / 16) as u16),
+        )
+    } else {
+        0
+    }
+}
+
+// The grid, slot by slot.
+fn fill_grid(board: &mut [u16; 17763], list: TaskList, len: Slots)
+    requires { ⌜ (list .n ≤ 16) × (len .0 ≤ 1024) × ((k : ℕ) → k < list .n → Fit (len .0) (taskAt list k)) ⌝ }
+    ensures { λ _. ⌜ now (board .exit) ≡ filled (now (board .entry)) 0 (len .0 * 16) (gridEntry list (len .0)) ⌝ }
+{
+    let n = len.0 as usize * 16;
+    let mut x: usize = 0;
+    while x < n {
+        board[x] = grid_entry(list, len, x);
+        x += 1;
+    }
+}
+
+// A byte as a number of the board.
+fn wide(x: u8) -> u16
+    ensures { λ r. ⌜ (r ≡ x) × (r ≤ 255) ⌝ }
+{
+    x as u16
+}
+
+// Whether two rates are equal, where both are positive.
+fn even_pair(x: u8, y: u8) -> bool
+    ensures { λ r. ⌜ r ≡ evenPair x y ⌝ }
+{
+    if x == 0 {
+        return true;
+    }
+    if y == 0 {
+        return true;
+    }
+    x == y
+}
+
+// Whether all positive rates of task v are equal.
+fn even_rates(rates: [u8; 64], v: usize) -> bool
+    requires { ⌜ v < 16 ⌝ }
+    ensures { λ r. ⌜ r ≡ rowEven rates v ⌝ }
+{
+    let mut x: usize = 0;
+    while x < 16 {
+        if !even_pair(rates[v * 4 + x / 4], rates[v * 4 + x % 4]) {
+            return false;
+        }
+        x += 1;
+    }
+    true
+}
+
+// Whether cores x % 4 and x / 4 have equal rates for every task.
+fn twin_cores(n: usize, rates: [u8; 64], x: usize) -> bool
+    requires { ⌜ (n ≤ 16) × (x < 16) ⌝ }
+    ensures { λ r. ⌜ r ≡ coresTwin n rates (x % 4) (x / 4) ⌝ }
+{
+    let mut v: usize = 0;
+    while v < n {
+        if rates[v * 4 + x % 4] != rates[v * 4 + x / 4] {
+            return false;
+        }
+        v += 1;
+    }
+    true
+}
+
+// A mark for rule A or B: 1 if the quick engine may use the rule.
+fn quick_mark(engine: u8, test: bool) -> u16
+    ensures { λ r. ⌜ r ≡ quickMark engine test ⌝ }
+{
+    if engine == 0 {
+        return 0;
+    }
+    if test { 1 } else { 0 }
+}
+
+// 1 if a rate is positive and within so much work.
+fn fit_bit(rate: u8, work: u8) -> u16
+    ensures { λ r. ⌜ (r ≡ fitBit rate work) × (r ≤ 1) ⌝ }
+{
+    if rate == 0 {
+        return 0;
+    }
+    if work < rate { 0 } else { 1 }
+}
+
+// The mark at place x, sixteen a task: the cores, as bits, on which its rate is positive and within work x % 16.
+fn fit_mark(rates: [u8; 64], x: usize) -> u16
+    requires { ⌜ x < 256 ⌝ }
+    ensures { λ r. ⌜ r ≡ fitMark rates x ⌝ }
+{
+    let k = x / 16 * 4;
+    let work = (x % 16) as u8;
+    fit_bit(rates[k], work)
+        + 2 * fit_bit(rates[k + 1], work)
+        + 4 * fit_bit(rates[k + 2], work)
+        + 8 * fit_bit(rates[k + 3], work)
+}
+
+// What stands x places behind the first rate.
+fn mark(list: TaskList, m: u8, engine: u8, len: Slots, x: usize) -> u16
+    requires { ⌜ (list .n ≤ 16) × (x < 355) ⌝ }
+    ensures { λ r. ⌜ r ≡ markAt list m engine (len .0) x ⌝ }
+{
+    let rates = list.rates;
+    if x < EVEN_MARKS {
+        return wide(rates[x]);
+    }
+    if x < TWIN_MARKS {
+        return quick_mark(engine, even_rates(rates, x - EVEN_MARKS));
+    }
+    if x < TASK_COUNT {
+        return quick_mark(engine, twin_cores(list.n as usize, rates, x - TWIN_MARKS));
+    }
+    if x == TASK_COUNT {
+        return list.n as u16;
+    }
+    if x == CORE_COUNT {
+        return m as u16;
+    }
+    if x == SLOT_COUNT {
+        return len.0;
+    }
+    fit_mark(rates, x - FIT_MARKS)
+}
+
+// The marks, behind the grid.
+fn fill_marks(board: &mut [u16; 17763], list: TaskList, m: u8, engine: u8, len: Slots)
+    requires { ⌜ list .n ≤ 16 ⌝ }
+    ensures { λ _. ⌜ now (board .exit) ≡ filled (now (board .entry)) 16384 355 (markAt list m engine (len .0)) ⌝ }
+{
+    let mut x: usize = 0;
+    while x < MARKS {
+        board[RATES + x] = mark(list, m, engine, len, x);
+        x += 1;
+    }
+}
+
+// The first task whose job has its highest-numbered slot in this slot of the grid, n if there is none.
+fn end_mark(board: &[u16; 17763], n: usize, slot: usize) -> u16
+    requires { ⌜ (n ≤ 16) × (slot < 1024) ⌝ }
+    ensures { λ r. ⌜ r ≡ endMark (now (board .entry)) n slot ⌝ }
+{
+    let mut v: usize = 0;
+    while v < n {
+        if board[slot * 16 + v] % 2 != 0 {
+            return v as u16;
+        }
+        v += 1;
+    }
+    n as u16
+}
+
+// The marks of the slots in which jobs end, by the grid.
+fn fill_ends(board: &mut [u16; 17763], n: usize, slots: usize)
+    requires { ⌜ (n ≤ 16) × (slots ≤ 1024) ⌝ }
+    ensures { λ _. ⌜ now (board .exit) ≡ filled (now (board .entry)) 16739 slots (endMark (now (board .entry)) n) ⌝ }
+{
+    let mut slot: usize = 0;
+    while slot < slots {
+        let mark = end_mark(board, n, slot);
+        board[ENDS + slot] = mark;
+        slot += 1;
+    }
+}
+
+// The board of a sound list.
+pub fn fill_board(board: &mut [u16; 17763], list: TaskList, m: u8, engine: u8, len: Slots)
+    requires { ⌜ (list .n ≤ 16) × (len .0 ≤ 1024) × ((k : ℕ) → k < list .n → Fit (len .0) (taskAt list k)) ⌝ }
+    ensures { λ _. ⌜ now (board .exit) ≡ boardOf list m engine (len .0) (now (board .entry)) ⌝ }
+{
+    fill_grid(board, list, len);
+    fill_marks(board, list, m, engine, len);
+    fill_ends(board, list.n as usize, len.0 as usize);
+}

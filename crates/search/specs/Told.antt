@@ -1,0 +1,49 @@
+-- What the search puts into the counters, and what it tells.
+-- Assumes nothing.
+use Prim.Native.Nat.{ℕ, _-_, _%_}
+use mathlib.Core.Bool.{Bool, cond}
+use mathlib.Core.List.{List}
+use lib.Dec.{leb}
+use Rattle.laws.specs.Lists.{nth}
+use Rattle.tasks.specs.declared.Task.{Task}
+use Rattle.tasks.specs.Refusal.{unless}
+use Rattle.table.specs.Table.{cells}
+use Rattle.rules.specs.Walk.{limited}
+use Rattle.rules.specs.Right.{ownInstance}
+use Rattle.rules.specs.Search.{Searched, walked, told}
+use Rattle.walk.specs.Machine.{End, Found, Nothing, Stopped}
+use Rattle.search.specs.declared.Answer.{Answer}
+
+-- the work of the job at a counter
+abbrev pub workAt : List ℕ → ℕ → ℕ
+workAt work x = nth work (x % 16)
+
+-- the verdict of a walk that ends so
+unfoldable pub verdictOf : End → ℕ
+verdictOf Found = 0
+verdictOf Nothing = 13
+verdictOf Stopped = 14
+
+-- the answer of a walk that ends so with k tries, counted from u on
+abbrev pub answerOf : End → ℕ → ℕ → Answer
+answerOf e k u = record { verdict = verdictOf e; tries = k - u }
+
+-- what is left in cell i of the caller's buffer: the table's, if one was found, else 0
+unfoldable pub cellLeft : Bool → List ℕ → ℕ → ℕ
+cellLeft found t i = cond found (nth t i) 0
+
+-- a refusal reports 0 tries
+abbrev pub refusedBy : ℕ → Answer
+refusedBy r = record { verdict = r; tries = 0 }
+
+-- after 1 to 8: 9 engine not 0 or 1; 10 buffer without room for n cells
+unfoldable pub callRefusal : ℕ → ℕ → ℕ → ℕ
+callRefusal e room n = unless (leb e 1) 9 (unless (leb n room) 10 0)
+
+-- what the search tells where nothing is refused
+unfoldable pub walkTold : ℕ → List Task → ℕ → ℕ → List ℕ → Searched
+walkTold m ts e b buffer = told (cells (ownInstance m ts)) buffer (limited b (walked e (ownInstance m ts)))
+
+-- the answer and the buffer, as the definition has them
+abbrev pub toldOf : Answer → List ℕ → Searched
+toldOf r t = record { verdict = r .verdict; tries = r .tries; buffer = t }
