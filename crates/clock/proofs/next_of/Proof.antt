@@ -12,7 +12,8 @@ in-time : (c : tie.After-elapsed) → let a = c .before .before .before .args in
 in-time c = refused-not _ _ _ _ _ _ _ _ _ (c .before .before .step-refusal .ensures) (omega (arith, c .before .if1 .left)) (c .elapsed .ensures)
 
 returns : tie.Need-returns
-returns c = next-refused _ _ _ _ _ _ _ _ _ (c .stays .ensures) (c .before .before .step-refusal .ensures) (λ z. omega (arith, c .before .if1 .taken, z))
+returns c = let a = c .before .before .before .args in
+    next-refused (a .last) (a .h) (a .position) (a .age) (a .m) (a .n) (a .tick) _ _ (c .stays .ensures) (c .before .before .step-refusal .ensures) (λ z. omega (arith, c .before .if1 .taken, z))
 
 add-slot : tie.Need-add-slot
 add-slot c = let k = in-time c in omega arith
