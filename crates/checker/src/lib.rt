@@ -96,12 +96,12 @@ fn cell_effect(list: TaskList, len: Slots, m: u8, table: &[u8], slot: u16, core:
     let task = tasks::task_at(list, place as usize);
     let rates = task.rates.0;
     let rate = rates[core as usize];
-    let opens = tasks::is_open(len, task, Slots(slot));
+    let opens = windows::is_open(len, task, Slots(slot));
     let fault = kind(opens, 0 < rate, free(table, first, core, value));
     if fault != 0 {
         return Effect::Faulty(fault);
     }
-    let job = tasks::job_at(len, task, Slots(slot));
+    let job = windows::job_at(len, task, Slots(slot));
     Effect::Does(counter_of(place, job), tasks::work_in(rate, Slots(1)))
 }
 

@@ -17,10 +17,11 @@ use Rattle.laws.proofs.TestLaws.{all-false, all-true, all-same}
 use Rattle.laws.proofs.ListLaws.{seek-is, seek-none, seek-same, filled-before, filled-next}
 use Rattle.tasks.specs.declared.Task.{Task}
 use Rattle.tasks.specs.declared.TaskList.{TaskList}
-use Rattle.tasks.specs.declared.Window.{Window}
-use Rattle.tasks.specs.declared.Window.the-variants.{Open, Closed}
 use Rattle.tasks.specs.Task.{taskAt}
-use Rattle.tasks.specs.Window.{isOpen, jobAt, lastSlot, openIf, windowAt}
+use Rattle.tasks.specs.Window.{isOpen, jobAt, lastSlot}
+use Rattle.windows.specs.declared.Window.{Window}
+use Rattle.windows.specs.declared.Window.the-variants.{Open, Closed}
+use Rattle.windows.specs.Answer.{openIf, windowAt}
 use Rattle.tasks.proofs.WindowLaws.{pos-T, job-lt}
 use Rattle.board.specs.Ready.{isQuick}
 use Rattle.fill.specs.Board.{Fit, entryFor, gridEntry, evenPair, pairEven, rowEven, coresTwin, quickMark, fitMark, evens, twins, tasks, cores, slots, fits, marks, markAt, endMark, unmarkedOf, boardOf}

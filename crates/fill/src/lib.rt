@@ -16,7 +16,7 @@ use board::TWINS;
 use tasks::Slots;
 use tasks::Task;
 use tasks::TaskList;
-use tasks::Window;
+use windows::Window;
 
 // Twice the counter of closed slots.
 const CLOSED: u16 = 32768;
@@ -42,10 +42,10 @@ fn entry(len: Slots, t: Task, v: u16, slot: Slots) -> u16
     requires { ⌜ Fit (len .0) t × (v < 16) × (slot .0 < len .0) ⌝ }
     ensures { λ r. ⌜ r ≡ entryFor (len .0) t (suc v) (slot .0) ⌝ }
 {
-    let window = tasks::open_in(len, t, slot);
+    let window = windows::open_in(len, t, slot);
     match window {
         Window::Open(job) => {
-            let last = tasks::last_slot(len, t, job);
+            let last = windows::last_slot(len, t, job);
             let counter = job * 16 + v;
             if last.0 == slot.0 {
                 2 * counter + 1

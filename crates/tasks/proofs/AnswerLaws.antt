@@ -1,12 +1,12 @@
--- What each answer of the code is by the definitions: tests of ranges and rates, refusals, lengths and windows.
+-- What each answer of the code is by the definitions: tests of ranges and rates, refusals and lengths.
 -- Assumes nothing.
-use Prim.Native.Nat.{ℕ, suc, _+_, _/_, _%_, _≤_, _<_}
+use Prim.Native.Nat.{ℕ, suc, _+_, _≤_, _<_}
 use mathlib.Core.Path.{_≡_, refl, sym, ap, _∙_, subst}
 use mathlib.Core.Logic.{_≢_}
 use mathlib.Core.Bool.{Bool, true, false, cond, not, _&&_}
 use mathlib.Core.List.{List}
 use native.Mathlib.Omega.{arith}
-use lib.Dec.{T, leb, ltb, eqb, le→leb}
+use lib.Dec.{T, leb, eqb, le→leb}
 use lib.ListN.{length}
 use borrow.Author.Tests.{lt-ltb, le-ltb, le-leb, lt-leb, eq-eqb, ne-eqb, not-true, not-false}
 use Rattle.laws.specs.Lists.{nth}
@@ -21,10 +21,8 @@ use Rattle.tasks.specs.declared.TaskList.{TaskList}
 use Rattle.tasks.specs.declared.Length.{Length}
 use Rattle.tasks.specs.declared.Length.the-variants.{Fits, TooLong}
 use Rattle.tasks.specs.declared.Soundness.the-variants.{Sound, Refused}
-use Rattle.tasks.specs.declared.Window.the-variants.{Open, Closed}
 use Rattle.tasks.specs.Task.{task, taskAt, rows}
 use Rattle.tasks.specs.Refusal.{mostRate, periodAt, within, unless, orNext, ratesFit, taskRefusal, listRefusal, tableLength, refusal, fitsIf, lengthOf, soundIf, soundnessOf, Periods}
-use Rattle.tasks.specs.Window.{place, isOpen, jobAt, openIf, windowAt}
 use Rattle.tasks.proofs.SoundLaws.{rows-length, rows-task, rates-at, within-is, list-range}
 
 -- ---- ranges and rates
@@ -179,23 +177,3 @@ sound-answer m ts h e l = ap (λ x. Sound (record { 0 = x })) l ∙ ap (λ y. so
 pub refused-answer : (m : ℕ) (ts : List Task) (r : ℕ) → r ≢ 0 → r ≡ refusal m ts → Refused r ≡ soundnessOf m ts
 unfolding soundnessOf
 refused-answer m ts r x e = ap (λ b. soundIf b r (tableLength ts)) (sym (ne-eqb r 0 x)) ∙ ap (λ y. soundIf (eqb y 0) y (tableLength ts)) e
-
--- ---- windows
--- the test on a place p
-pub open-at : (L O D T t p : ℕ) → p ≡ place L O t → ltb (p % T) D ≡ isOpen L O D T t
-open-at L O D T t p e = ap (λ x. ltb (x % T) D) e
-
--- and its job
-pub job-at : (L O T t p : ℕ) → p ≡ place L O t → p / T ≡ jobAt L O T t
-job-at L O T t p e = ap (λ x. x / T) e
-
-module _ (L t : ℕ) (τ : Task) (b : Bool) (e : b ≡ isOpen L (τ .offset .0) (τ .deadline .0) (τ .period .0) t) where
-  -- what is told of an open task
-  pub window-open : b ≡ true → (job : ℕ) → job ≡ jobAt L (τ .offset .0) (τ .period .0) t → Open job ≡ windowAt L τ t
-  unfolding windowAt
-  window-open h job ej = ap Open ej ∙ ap (λ x. openIf x (jobAt L (τ .offset .0) (τ .period .0) t)) (sym h ∙ e)
-
-  -- and of a closed one
-  pub window-closed : b ≡ false → Closed ≡ windowAt L τ t
-  unfolding windowAt
-  window-closed h = ap (λ x. openIf x (jobAt L (τ .offset .0) (τ .period .0) t)) (sym h ∙ e)

@@ -5,9 +5,6 @@ use mathlib.Core.Path.{_≡_}
 use mathlib.Core.Bool.{Bool, true, false, cond, _&&_}
 use lib.Dec.{ltb, eqb}
 use Rattle.laws.specs.Sum.{gate, sum}
-use Rattle.tasks.specs.declared.Task.{Task}
-use Rattle.tasks.specs.declared.Window.{Window}
-use Rattle.tasks.specs.declared.Window.the-variants.{Open, Closed}
 
 -- p = (t - O) mod L, taken between 0 and L - 1
 unfoldable pub place : ℕ → ℕ → ℕ → ℕ
@@ -37,15 +34,6 @@ highest (suc n) g = cond (g n) n (highest n g)
 -- job k's highest-numbered slot
 abbrev pub lastSlot : ℕ → ℕ → ℕ → ℕ → ℕ → ℕ
 lastSlot L O D T k = highest L (isJobs L O D T k)
-
--- what the code answers: open, with the job's number, or closed
-abbrev pub openIf : Bool → ℕ → Window
-openIf true k = Open k
-openIf false k = Closed
-
--- that answer for a task in slot t
-unfoldable pub windowAt : ℕ → Task → ℕ → Window
-windowAt L τ t = openIf (isOpen L (τ .offset .0) (τ .deadline .0) (τ .period .0) t) (jobAt L (τ .offset .0) (τ .period .0) t)
 
 -- time s, from 0 on without end, lies in the K-th window
 abbrev pub InWindow : ℕ → ℕ → ℕ → ℕ → ℕ → Type 0

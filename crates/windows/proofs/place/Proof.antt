@@ -1,11 +1,11 @@
--- `tasks::place` meets its contract: a remainder is below its divisor.
+-- `windows::place` meets its contract: a remainder is below its divisor.
 -- Assumes nothing.
 use mathlib.Core.Path.{refl}
 use native.Mathlib.Nat.{mod-lt, le-of-lt}
 use Rattle.tasks.specs.Window.{place}
 use borrow.Author.Needs.{needs}
-use Rattle.tasks.proofs.place.Statement.{statement}
-use Rattle.tasks.proofs.place.Tie as tie
+use Rattle.windows.proofs.place.Statement.{statement}
+use Rattle.windows.proofs.place.Tie as tie
 
 sub-t5 : tie.Need-sub-t5
 sub-t5 c = le-of-lt (mod-lt (c .before .before .before .args .offset .0) (c .before .before .before .pre .0))

@@ -1,11 +1,11 @@
--- `tasks::last_slot` meets its contract: the closed form is the highest slot that is the job's.
+-- `windows::last_slot` meets its contract: the closed form is the highest slot that is the job's.
 -- Assumes nothing.
 use native.Mathlib.Omega.{arith}
 use native.Mathlib.Nat.{lt-trans}
 use borrow.Author.Needs.{needs}
 use Rattle.tasks.proofs.WindowLaws.{pos-L, period-fits, end-fits, last-straight, last-round}
-use Rattle.tasks.proofs.last_slot.Statement.{statement}
-use Rattle.tasks.proofs.last_slot.Tie as tie
+use Rattle.windows.proofs.last_slot.Statement.{statement}
+use Rattle.windows.proofs.last_slot.Tie as tie
 
 mul-first : tie.Need-mul-first
 mul-first c = omega (arith, period-fits (c .before .pre .2) _ (c .before .pre .3))

@@ -1,9 +1,9 @@
--- `tasks::open_in` meets its contract: open, with the job's number, or closed.
+-- `windows::open_in` meets its contract: open, with the job's number, or closed.
 -- Assumes nothing.
-use Rattle.tasks.proofs.AnswerLaws.{window-open, window-closed}
+use Rattle.windows.proofs.AnswerLaws.{window-open, window-closed}
 use borrow.Author.Needs.{needs}
-use Rattle.tasks.proofs.open_in.Statement.{statement}
-use Rattle.tasks.proofs.open_in.Tie as tie
+use Rattle.windows.proofs.open_in.Statement.{statement}
+use Rattle.windows.proofs.open_in.Tie as tie
 
 returns : tie.Need-returns
 returns c = window-open _ _ _ _ (c .before .before .is-open .ensures) (c .before .if1 .taken) _ (c .job-at .ensures)

@@ -1,9 +1,9 @@
--- `tasks::job_at` meets its contract: the place is the definition's.
+-- `windows::job_at` meets its contract: the place is the definition's.
 -- Assumes nothing.
-use Rattle.tasks.proofs.AnswerLaws.{job-at}
+use Rattle.windows.proofs.AnswerLaws.{job-at}
 use borrow.Author.Needs.{needs}
-use Rattle.tasks.proofs.job_at.Statement.{statement}
-use Rattle.tasks.proofs.job_at.Tie as tie
+use Rattle.windows.proofs.job_at.Statement.{statement}
+use Rattle.windows.proofs.job_at.Tie as tie
 
 returns : tie.Need-returns
 returns c = search (needs, job-at)
