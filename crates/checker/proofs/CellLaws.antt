@@ -5,14 +5,12 @@ use native.Mathlib.Nat.{mul-le-mul, mul-le-mul-right, div-le-self}
 use native.Mathlib.Omega.{arith}
 use mathlib.Core.Path.{_≡_, refl, sym, ap, subst, _∙_}
 use mathlib.Core.Logic.{_≢_}
-use mathlib.Core.Bool.{Bool, true, false, not}
+use mathlib.Core.Bool.{Bool, not}
 use mathlib.Core.List.{List}
 use lib.Dec.{ltb, eqb}
 use lib.Arith.{digits-div, digits-mod}
-use borrow.Author.Tests.{eq-eqb, ne-eqb}
 use Rattle.laws.specs.Lists.{nth}
 use Rattle.laws.specs.Tests.{all}
-use Rattle.laws.proofs.TestLaws.{all-false, all-true}
 use Rattle.tasks.specs.declared.Task.{Task}
 use Rattle.tasks.specs.declared.TaskList.{TaskList}
 use Rattle.tasks.specs.declared.Work.{Work}
@@ -22,8 +20,9 @@ use Rattle.tasks.specs.Instance.{Instance, instanceOf, Regular}
 use Rattle.tasks.proofs.SoundLaws.{rows-length, rows-task, InRange, SoundList, sound-list, length-whole, instance-regular}
 use Rattle.table.specs.Table.{cells, slotOf, coreOf, free}
 use Rattle.table.specs.Fault.{knownKind, cellKind}
+use Rattle.faults.specs.Tests.{freeIn, counterAt}
 use Rattle.checker.specs.declared.Effect.the-variants.{Nothing, Does, Faulty}
-use Rattle.checker.specs.Checks.{instanceFor, Ready, At, freeIn, counterAt, effectOf}
+use Rattle.checker.specs.Checks.{instanceFor, Ready, At, effectOf}
 use Rattle.checker.proofs.FaultLaws.{after, kind-unknown, kind-known}
 
 -- ---- what fits
@@ -79,17 +78,6 @@ module _ {list : TaskList} {m h : ℕ} {t : List ℕ} (ready : Ready list m h t)
     few-jobs = λ i. omega (arith, div-le-self h (task (rows list) i .period .0), few-slots);
     few-units = λ i j x l q. listed .in-range i x l .rate-le j (omega (arith, few-cores));
   }
-
--- ---- a task in its slot
--- it stands on an earlier core
-pub free-not : (t : List ℕ) (first core v j : ℕ) → j < core → nth t (first + j) ≡ v → false ≡ freeIn t first core v
-unfolding freeIn
-free-not t first core v j l e = sym (all-false core _ j l (ap not (eq-eqb (nth t (first + j)) v e)))
-
--- it stands on none
-pub free-yes : (t : List ℕ) (first core v : ℕ) → ((k : ℕ) → k < core → nth t (first + k) ≡ v → ⊥) → true ≡ freeIn t first core v
-unfolding freeIn
-free-yes t first core v none = sym (all-true core _ (λ k l. ap not (ne-eqb (nth t (first + k)) v (none k l))))
 
 -- ---- the effect of a cell
 module _ (P : Instance) (f : ℕ → ℕ) (c : ℕ) where

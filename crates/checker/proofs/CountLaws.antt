@@ -1,15 +1,14 @@
--- The first faulty job by the counters: the work of one job, the jobs of a task, and the tasks.
+-- The first faulty job by the counters, task by task.
 -- Assumes nothing.
 use Prim.Native.Nat.{ℕ, suc, _+_, _/_, _≤_, _<_}
 use native.Mathlib.Nat.{div-le-self}
 use native.Mathlib.Numerals.{add-one}
 use native.Mathlib.Omega.{arith}
 use mathlib.Core.Path.{_≡_, sym, ap, subst, _∙_}
-use mathlib.Core.Logic.{_≢_}
 use mathlib.Core.List.{List}
 use lib.ListN.{length}
 use borrow.Author.Tests.{lt-ltb, le-ltb}
-use Rattle.laws.specs.Lists.{nth, seek, firstOf}
+use Rattle.laws.specs.Lists.{seek, firstOf}
 use Rattle.laws.proofs.SumLaws.{gate-lt, gate-ge}
 use Rattle.laws.proofs.ListLaws.{seek-is, seek-none, seek-some}
 use Rattle.tasks.specs.declared.Task.{Task}
@@ -17,25 +16,11 @@ use Rattle.tasks.specs.declared.TaskList.{TaskList}
 use Rattle.tasks.specs.Task.{task, taskAt, rows}
 use Rattle.tasks.specs.Refusal.{Periods}
 use Rattle.tasks.proofs.SoundLaws.{rows-length, rows-task}
-use Rattle.table.specs.Fault.{workKind, firstJob, checked, inJob}
+use Rattle.table.specs.Fault.{firstJob, checked, inJob}
+use Rattle.faults.specs.Tests.{countedKind}
 use Rattle.checker.specs.declared.Verdict.the-variants.{Valid, Job}
-use Rattle.checker.specs.Checks.{toldOf, counterAt, countedKind, jobFaultIn}
+use Rattle.checker.specs.Checks.{toldOf, jobFaultIn}
 
--- ---- the work of a job, as its counter tells it
-pub counted-is : (counters : List ℕ) (place C k : ℕ) {x kind : ℕ} → x ≡ counterAt place k → kind ≡ workKind C (nth counters x) → kind ≡ countedKind counters place C k
-unfolding countedKind
-counted-is counters place C k e q = q ∙ ap (λ x. workKind C (nth counters x)) e
-
--- ---- the jobs of a task
--- the first faulty one is found
-pub job-found : (n i x : ℕ) (g : ℕ → ℕ) → i < n → ((k : ℕ) → k < i → g k ≡ 0) → x ≡ g i → x ≢ 0 → i ≡ seek n g
-job-found n i x g l none e y = sym (seek-is n i g l none (λ z. y (e ∙ z)))
-
--- none is faulty
-pub job-none : (n i : ℕ) (g : ℕ → ℕ) → i ≤ n → n ≤ i → ((k : ℕ) → k < i → g k ≡ 0) → i ≡ seek n g
-job-none n i g l m none = let e : i ≡ n = omega arith in e ∙ sym (seek-none n g (λ k q. none k (omega arith)))
-
--- ---- the tasks
 -- the first fault of the jobs of the task at place j
 pub row : List ℕ → ℕ → List Task → ℕ → ℕ
 row counters h ts j = firstOf (h / task ts (suc j) .period .0) (countedKind counters j (task ts (suc j) .work .0))

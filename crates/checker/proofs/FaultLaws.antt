@@ -7,16 +7,16 @@ use mathlib.Core.Path.{_≡_, refl, sym, subst, _∙_}
 use mathlib.Core.Logic.{_≢_, _⊎_, inl, inr, ⊎-elim}
 use mathlib.Core.Bool.{Bool, true, false, not}
 use lib.Dec.{T, ltb, eqb, leb→le, ltb→lt, le→leb, lt→ltb, eqb→eq}
-use borrow.Author.Tests.{le-leb, lt-leb, lt-ltb, le-ltb}
+use borrow.Author.Tests.{lt-ltb, le-ltb}
 use Rattle.laws.specs.Lists.{seek, firstOf}
 use Rattle.laws.proofs.SumLaws.{lt-or-ge}
 use Rattle.laws.proofs.TestLaws.{all-fails}
 use Rattle.laws.proofs.ListLaws.{seek-before, seek-some, first-none, first-zero}
-use Rattle.tasks.specs.Refusal.{unless}
 use Rattle.tasks.specs.Instance.{Instance}
 use Rattle.tasks.proofs.AnswerLaws.{unless-yes, unless-no}
 use Rattle.table.specs.Table.{cells, slotOf, coreOf, beside, done, free, Valid}
-use Rattle.table.specs.Fault.{knownKind, kindOf, cellKind, workKind, jobKind, Fault, noFault, inCell, inJob, firstJob, jobFault, fault}
+use Rattle.table.specs.Fault.{knownKind, kindOf, cellKind, jobKind, Fault, noFault, inCell, inJob, firstJob, jobFault, fault}
+use Rattle.faults.proofs.TestLaws.{work-little, work-much, work-exact}
 use Rattle.checker.specs.Faulty.{Fine, Wrong, unknown, closed, unrated, twice, Exact, WrongWork, too-little, too-much, FirstCell, FirstJob}
 use Rattle.table.proofs.TableLaws.{beside-before, beside-slot, free-apart}
 
@@ -29,22 +29,6 @@ tested false = inr (λ t. t)
 pub after : (v : ℕ) → v ≢ 0 → v ≡ suc (pred v)
 after zero x = absurd (x refl)
 after (suc v) x = refl
-
--- ---- the work of a job
--- too little
-pub work-little : (C d : ℕ) → d < C → 5 ≡ workKind C d
-unfolding workKind unless
-work-little C d l = rw (lt-leb C d l)
-
--- too much
-pub work-much : (C d : ℕ) → C < d → 6 ≡ workKind C d
-unfolding workKind unless
-work-much C d l = rw (le-leb C d (omega arith), lt-leb d C l)
-
--- exactly C
-pub work-exact : (C d : ℕ) → C ≤ d → d ≤ C → 0 ≡ workKind C d
-unfolding workKind unless
-work-exact C d l m = rw (le-leb C d l, le-leb d C m)
 
 module _ (P : Instance) (f : ℕ → ℕ) where
   -- ---- cells

@@ -26,10 +26,11 @@ use Rattle.table.specs.Fault.{cellKind, inCell, checked}
 use Rattle.table.proofs.JobLaws.{slot-job}
 use Rattle.table.proofs.ShareLaws.{share-own, share-other, share-none}
 use Rattle.table.proofs.TableLaws.{slot-there}
+use Rattle.faults.specs.Tests.{counterAt}
 use Rattle.checker.specs.declared.Verdict.the-variants.{Valid, Cell}
 use Rattle.checker.specs.declared.Effect.{Effect}
 use Rattle.checker.specs.declared.Effect.the-variants.{Nothing, Does, Faulty}
-use Rattle.checker.specs.Checks.{toldOf, instanceFor, Ready, At, counterAt, effectIf, effectOf, Counted, cellFault, Scanned}
+use Rattle.checker.specs.Checks.{toldOf, instanceFor, Ready, At, effectIf, effectOf, Counted, cellFault, Scanned}
 use Rattle.checker.specs.Faulty.{Fine}
 use Rattle.checker.proofs.FaultLaws.{after, kind-idle, kind-fine}
 use Rattle.checker.proofs.CellLaws.{Small, ready-small, slot-of, core-of, cell-in}

@@ -25,10 +25,11 @@ use Rattle.tasks.specs.Instance.{Instance, instanceOf}
 use Rattle.tasks.proofs.SoundLaws.{sound-list, soundness-sound, soundness-refused}
 use Rattle.table.specs.Table.{cells, done}
 use Rattle.table.specs.Fault.{cellKind, workKind, jobKind, noFault, inJob, firstJob, jobFault, fault, refused, checked, checkedIf, check}
+use Rattle.faults.specs.Tests.{counterAt, countedKind}
 use Rattle.checker.proofs.Verdict.{the-type}
 use Rattle.checker.specs.declared.Verdict.{Verdict}
 use Rattle.checker.specs.declared.Verdict.the-variants.{Valid, Cell, Job, Refused}
-use Rattle.checker.specs.Checks.{toldOf, instanceFor, Ready, counterAt, Counted, cellFault, Scanned, countedKind, jobFaultIn}
+use Rattle.checker.specs.Checks.{toldOf, instanceFor, Ready, Counted, cellFault, Scanned, jobFaultIn}
 use Rattle.checker.proofs.CellLaws.{Small, few-listed, few-slots, ready-small}
 
 -- ---- refusals

@@ -1,12 +1,10 @@
 -- What the checker tells, and what its parts answer: the first faulty cell with the work counted on the way, and the first faulty job.
 -- Assumes nothing.
-use Prim.Native.Nat.{ℕ, zero, suc, pred, _+_, _*_, _/_, _≤_, _<_}
+use Prim.Native.Nat.{ℕ, zero, suc, pred, _*_, _/_, _≤_, _<_}
 use mathlib.Core.Path.{_≡_}
-use mathlib.Core.Bool.{Bool, not}
 use mathlib.Core.List.{List}
-use lib.Dec.{ltb, eqb}
+use lib.Dec.{ltb}
 use lib.ListN.{length}
-use Rattle.laws.specs.Tests.{all}
 use Rattle.laws.specs.Lists.{nth, seek}
 use Rattle.tasks.specs.declared.Task.{Task}
 use Rattle.tasks.specs.declared.TaskList.{TaskList}
@@ -14,7 +12,8 @@ use Rattle.tasks.specs.Task.{task, rows}
 use Rattle.tasks.specs.Refusal.{IsSound, tableLength}
 use Rattle.tasks.specs.Instance.{Instance, instanceOf}
 use Rattle.table.specs.Table.{cells, slotOf, coreOf, done}
-use Rattle.table.specs.Fault.{cellKind, workKind, Fault, noFault, inCell, inJob, faultIf, firstJob, Checked, refused, checked}
+use Rattle.table.specs.Fault.{cellKind, Fault, noFault, inCell, inJob, faultIf, firstJob, Checked, refused, checked}
+use Rattle.faults.specs.Tests.{counterAt, countedKind}
 use Rattle.checker.specs.declared.Verdict.{Verdict}
 use Rattle.checker.specs.declared.Verdict.the-variants.{Valid, Cell, Job, Refused}
 use Rattle.checker.specs.declared.Effect.{Effect}
@@ -44,14 +43,6 @@ pub record At (list : TaskList) (m h : ℕ) (t : List ℕ) (slot core : ℕ) : T
   pub core-in : core < m
 
 -- ---- cells
--- the task v stands on none of the earlier cores of the slot that begins at cell first
-unfoldable pub freeIn : List ℕ → ℕ → ℕ → ℕ → Bool
-freeIn t first core v = all core (λ j. not (eqb (nth t (first + j)) v))
-
--- the counter of job k of the task at a place of the list, from 0
-abbrev pub counterAt : ℕ → ℕ → ℕ
-counterAt place k = k * 16 + place
-
 -- nothing for an idle cell, a fault of its kind, or the work s for the job of counter x
 abbrev pub effectIf : ℕ → ℕ → ℕ → ℕ → Effect
 effectIf zero kind x s = Nothing
@@ -79,10 +70,6 @@ pub record Scanned (P : Instance) (f : ℕ → ℕ) (r : Verdict) (counters : Li
   pub counted : Counted P f (seek (cells P) (cellKind P f)) counters
 
 -- ---- jobs
--- the fault of job k of the task at a place of the list, by its counter
-unfoldable pub countedKind : List ℕ → ℕ → ℕ → ℕ → ℕ
-countedKind counters place C k = workKind C (nth counters (counterAt place k))
-
 -- the first faulty job by the counters, in tables of h slots
 unfoldable pub jobFaultIn : List ℕ → ℕ → List Task → Fault
 jobFaultIn counters h ts =

@@ -1,13 +1,12 @@
 // The checker of tables: refusals 1 to 8 and 10, then the first fault.
 ghost use mathlib.Core.Path.{_≡_};
-ghost use Prim.Native.Nat.{_+_, _*_, _≤_, _<_};
-ghost use lib.ListN.{length};
-ghost use Rattle.laws.specs.Lists.{nth, seek};
+ghost use Prim.Native.Nat.{_+_, _*_, _≤_};
+ghost use Rattle.laws.specs.Lists.{nth};
 ghost use Rattle.tasks.specs.Task.{rows};
 ghost use Rattle.tasks.specs.Refusal.{Periods};
-ghost use Rattle.table.specs.Fault.{knownKind, workKind, check, checked};
-ghost use Rattle.checker.specs.Checks.{toldOf, instanceFor, Ready, At, freeIn, counterAt, effectOf, Counted, Scanned, countedKind, jobFaultIn};
-use tasks::MAX_TASKS;
+ghost use Rattle.table.specs.Fault.{check, checked};
+ghost use Rattle.checker.specs.Checks.{toldOf, instanceFor, Ready, At, effectOf, Counted, Scanned, jobFaultIn};
+use faults::UNKNOWN_TASK;
 use tasks::Slots;
 use tasks::Soundness;
 use tasks::TaskList;
@@ -21,62 +20,13 @@ pub enum Verdict {
     Refused(u8),
 }
 
-// The kinds of fault, by 01's numbers.
-pub const UNKNOWN_TASK: u8 = 1;
-
-pub const TASK_CLOSED: u8 = 2;
-
-pub const RATE_0: u8 = 3;
-
-pub const ALREADY_IN_SLOT: u8 = 4;
-
-pub const TOO_LITTLE_WORK: u8 = 5;
-
-pub const TOO_MUCH_WORK: u8 = 6;
-
 const IDLE: u8 = 0;
-
-// Whether a task stands on none of the earlier cores of the slot that begins at cell `first`.
-fn free(table: &[u8], first: usize, core: u8, task: u8) -> bool
-    requires { ⌜ first + core ≤ length (now table) ⌝ }
-    ensures { λ r. ⌜ r ≡ freeIn (now (table .entry)) first core task ⌝ }
-{
-    for j in 0..core {
-        if table[first + (j as usize)] == task {
-            return false;
-        }
-    }
-    true
-}
-
-// The counter of a job of the task at a place of the list, from 0: in the job's row of 16.
-fn counter_of(place: u8, job: u16) -> usize
-    ensures { λ r. ⌜ r ≡ counterAt place job ⌝ }
-{
-    (job as usize) * (MAX_TASKS as usize) + (place as usize)
-}
 
 // What a cell does: nothing, so much work for the job at a counter, or a fault of a kind.
 enum Effect {
     Nothing,
     Does(usize, Work),
     Faulty(u8),
-}
-
-// The kind of fault of a task of the list in a cell, by 01's tests in their order; 0 if it passes them.
-fn kind(opens: bool, rated: bool, free: bool) -> u8
-    ensures { λ r. ⌜ r ≡ knownKind opens rated free ⌝ }
-{
-    if !opens {
-        return TASK_CLOSED;
-    }
-    if !rated {
-        return RATE_0;
-    }
-    if !free {
-        return ALREADY_IN_SLOT;
-    }
-    0
 }
 
 // The effect of a cell.
@@ -97,12 +47,15 @@ fn cell_effect(list: TaskList, len: Slots, m: u8, table: &[u8], slot: u16, core:
     let rates = task.rates.0;
     let rate = rates[core as usize];
     let opens = windows::is_open(len, task, Slots(slot));
-    let fault = kind(opens, 0 < rate, free(table, first, core, value));
+    let fault = faults::kind(opens, 0 < rate, faults::free(table, first, core, value));
     if fault != 0 {
         return Effect::Faulty(fault);
     }
     let job = windows::job_at(len, task, Slots(slot));
-    Effect::Does(counter_of(place, job), tasks::work_in(rate, Slots(1)))
+    Effect::Does(
+        faults::counter_of(place, job),
+        tasks::work_in(rate, Slots(1)),
+    )
 }
 
 // The first faulty cell, in table order; `done` counts the work of the cells before it.
@@ -132,42 +85,6 @@ fn scan_cells(list: TaskList, len: Slots, m: u8, table: &[u8], done: &mut [u16; 
     }
 }
 
-// The kind of fault of a job with so much work done; 0 if it is exactly its work.
-fn job_kind(work: Work, done: Work) -> u8
-    ensures { λ r. ⌜ r ≡ workKind (work .0) (done .0) ⌝ }
-{
-    if done.0 < work.0 {
-        return TOO_LITTLE_WORK;
-    }
-    if work.0 < done.0 {
-        return TOO_MUCH_WORK;
-    }
-    0
-}
-
-// The kind of fault of a job of the task at a place of the list.
-fn counted_kind(done: &[u16; 16384], place: u8, work: Work, job: u16) -> u8
-    requires { ⌜ (place < 16) × (job < 1024) ⌝ }
-    ensures { λ r. ⌜ r ≡ countedKind (now (done .entry)) place (work .0) job ⌝ }
-{
-    job_kind(work, Work(done[counter_of(place, job)]))
-}
-
-// The first faulty job of the task at a place of the list; the number of its jobs if none is.
-fn faulty_job(done: &[u16; 16384], place: u8, work: Work, jobs: u16) -> u16
-    requires { ⌜ (place < 16) × (jobs ≤ 1024) ⌝ }
-    ensures { λ r. ⌜ r ≡ seek jobs (countedKind (now (done .entry)) place (work .0)) ⌝ }
-{
-    let mut job: u16 = 0;
-    while job < jobs {
-        if counted_kind(done, place, work, job) != 0 {
-            return job;
-        }
-        job += 1;
-    }
-    job
-}
-
 // The first faulty job, by task and job number.
 fn scan_jobs(list: TaskList, len: Slots, done: &[u16; 16384]) -> Verdict
     requires { ⌜ (list .n ≤ 16) × (len .0 ≤ 1024) × Periods (rows list) ⌝ }
@@ -178,9 +95,9 @@ fn scan_jobs(list: TaskList, len: Slots, done: &[u16; 16384]) -> Verdict
         let task = tasks::task_at(list, place as usize);
         let jobs = len.0 / task.period.0;
         let work = task.work;
-        let job = faulty_job(done, place, work, jobs);
+        let job = faults::faulty_job(done, place, work, jobs);
         if job < jobs {
-            return Verdict::Job(place + 1, job, counted_kind(done, place, work, job));
+            return Verdict::Job(place + 1, job, faults::counted_kind(done, place, work, job));
         }
     }
     Verdict::Valid

@@ -1,9 +1,9 @@
--- `checker::kind` meets its contract: its tests are 01's, one by one.
+-- `faults::kind` meets its contract: its tests are 01's, one by one.
 -- Assumes nothing.
 use mathlib.Core.Path.{refl}
 use Rattle.tasks.proofs.AnswerLaws.{refuses, goes-on}
-use Rattle.checker.proofs.kind.Statement.{statement}
-use Rattle.checker.proofs.kind.Tie as tie
+use Rattle.faults.proofs.kind.Statement.{statement}
+use Rattle.faults.proofs.kind.Tie as tie
 
 returns : tie.Need-returns
 returns c = refuses _ _ _ _ refl (c .if1 .taken)

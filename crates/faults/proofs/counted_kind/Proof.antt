@@ -1,9 +1,9 @@
--- `checker::counted_kind` meets its contract: a place below 16 and a job below 1024 have a counter below 16384.
+-- `faults::counted_kind` meets its contract: a place below 16 and a job below 1024 have a counter below 16384.
 -- Assumes nothing.
-use Rattle.checker.proofs.CountLaws.{counted-is}
+use Rattle.faults.proofs.TestLaws.{counted-is}
 use borrow.Author.Needs.{needs}
-use Rattle.checker.proofs.counted_kind.Statement.{statement}
-use Rattle.checker.proofs.counted_kind.Tie as tie
+use Rattle.faults.proofs.counted_kind.Statement.{statement}
+use Rattle.faults.proofs.counted_kind.Tie as tie
 
 returns : tie.Need-returns
 returns c = counted-is _ _ _ _ (c .before .before .counter-of .ensures) (c .job-kind .ensures)

@@ -1,14 +1,14 @@
--- `checker::faulty_job` meets its contract. The loop's invariant: no job passed is faulty. The measure is what is left of the jobs.
+-- `faults::faulty_job` meets its contract. The loop's invariant: no job passed is faulty. The measure is what is left of the jobs.
 -- Assumes nothing.
 use Prim.Native.Nat.{ℕ, _-_, _≤_, _<_}
 use mathlib.Core.Path.{_≡_, sym, _∙_}
 use native.Mathlib.Omega.{arith}
 use borrow.Author.Count.{below-none, below-more}
-use Rattle.checker.specs.Checks.{countedKind}
-use Rattle.checker.proofs.CountLaws.{job-found, job-none}
+use Rattle.faults.specs.Tests.{countedKind}
+use Rattle.faults.proofs.TestLaws.{job-found, job-none}
 use borrow.Author.Needs.{needs}
-use Rattle.checker.proofs.faulty_job.Statement.{statement}
-use Rattle.checker.proofs.faulty_job.Tie as tie
+use Rattle.faults.proofs.faulty_job.Statement.{statement}
+use Rattle.faults.proofs.faulty_job.Tie as tie
 
 abbrev Inv-loop : tie.InvT-loop
 Inv-loop done place work jobs job₀ job = (job ≤ jobs) × ((k : ℕ) → k < job → countedKind done place (work .0) k ≡ 0)

@@ -1,8 +1,8 @@
--- `checker::job_kind` meets its contract: its tests are the definition's.
+-- `faults::job_kind` meets its contract: its tests are the definition's.
 -- Assumes nothing.
-use Rattle.checker.proofs.FaultLaws.{work-little, work-much, work-exact}
-use Rattle.checker.proofs.job_kind.Statement.{statement}
-use Rattle.checker.proofs.job_kind.Tie as tie
+use Rattle.faults.proofs.TestLaws.{work-little, work-much, work-exact}
+use Rattle.faults.proofs.job_kind.Statement.{statement}
+use Rattle.faults.proofs.job_kind.Tie as tie
 
 returns : tie.Need-returns
 returns c = work-little _ _ (c .if1 .taken)

@@ -1,14 +1,14 @@
--- `checker::free` meets its contract. The loop's invariant: the task stands on no core passed. The measure is what is left of the cores.
+-- `faults::free` meets its contract. The loop's invariant: the task stands on no core passed. The measure is what is left of the cores.
 -- Assumes nothing.
 use Prim.Native.Nat.{ℕ, _+_, _-_, _≤_, _<_}
 use mathlib.Core.Path.{_≡_}
 use native.Mathlib.Omega.{arith}
 use borrow.Author.Count.{below-more}
 use Rattle.laws.specs.Lists.{nth}
-use Rattle.checker.proofs.CellLaws.{free-not, free-yes}
+use Rattle.faults.proofs.TestLaws.{free-not, free-yes}
 use borrow.Author.Needs.{needs}
-use Rattle.checker.proofs.free.Statement.{statement}
-use Rattle.checker.proofs.free.Tie as tie
+use Rattle.faults.proofs.free.Statement.{statement}
+use Rattle.faults.proofs.free.Tie as tie
 
 abbrev Inv-loop : tie.InvT-loop
 Inv-loop table first core task j₀ j = (j ≤ core) × ((k : ℕ) → k < j → nth table (first + k) ≡ task → ⊥)

@@ -1,0 +1,2 @@
+pub mod TestLaws
+pub mod Calls
