@@ -88,7 +88,9 @@ fn byte_at(text: &[u8], at: usize) -> u8
     requires { ⌜ at + 1 < length (now text) ⌝ }
     ensures { λ r. ⌜ r ≡ digitOf (nth (now (text .entry)) at) * 16 + digitOf (nth (now (text .entry)) (at + 1)) ⌝ }
 {
-    digit(text[at]) * 16 + digit(text[at + 1])
+    let high = digit(text[at]);
+    let low = digit(text[at + 1]);
+    high * 16 + low
 }
 
 // The digit of a number below 16.
