@@ -1,6 +1,6 @@
 -- The board of a sound list is right for the list's instance.
 -- Assumes nothing.
-use Prim.Native.Nat.{ℕ, zero, suc, _+_, _*_, _/_, _%_, _≤_, _<_, min}
+use Prim.Native.Nat.{ℕ, zero, suc, _+_, _*_, _-_, _/_, _%_, _≤_, _<_, min}
 use native.Mathlib.Omega.{arith}
 use native.Mathlib.Nat.{div-le-self, min-le-right}
 use mathlib.Core.Path.{_≡_, refl, sym, ap, ap₂, subst, _∙_}
@@ -28,11 +28,11 @@ use Rattle.tasks.proofs.WindowLaws.{job-slot, highest-passes}
 use Rattle.rules.specs.Rules.{evenRates, twin}
 use Rattle.rules.specs.Right.{ownInstance}
 use Rattle.sets.specs.Sets.{has}
-use Rattle.board.specs.Board.{tasksOn, coresOn, slotsOn, Fits}
+use Rattle.board.specs.Board.{coresOn, Fits}
 use Rattle.board.specs.Ready.{Small, entryOf, isQuick, Ready}
 use Rattle.board.proofs.ReadyLaws.{test-same}
 use Rattle.fill.specs.Board.{Fit, entryFor, gridEntry, evenPair, pairEven, rowEven, coresTwin, quickMark, fitMark, evens, twins, tasks, cores, slots, fits, marks, markAt, endMark, unmarkedOf, boardOf}
-use Rattle.fill.proofs.FillLaws.{at-rate, at-even, at-twin, at-tasks, at-cores, at-slots, at-fit}
+use Rattle.fill.proofs.FillLaws.{test-even, test-twin, size-tasks, size-cores, size-slots, at-rate, at-rule, at-size, at-fit}
 use Rattle.fill.proofs.FitLaws.{mark-has, up-to-15}
 
 -- ---- the list's instance
@@ -82,7 +82,7 @@ module _ (list : TaskList) (m e L : ℕ) (few : L ≤ 1024) where
 
   unmarked-length : length unmarked ≡ 17763
   unfolding unmarked unmarkedOf grid
-  unmarked-length = filled-length grid 16384 marks (markAt list m e L) ∙ grid-length
+  unmarked-length = filled-length grid 16384 marks (markAt (list .n) (list .rates) m e L) ∙ grid-length
 
   -- below the marks of ends
   below-ends : (x : ℕ) → x < 16739 → nth board x ≡ nth unmarked x
@@ -93,14 +93,14 @@ module _ (list : TaskList) (m e L : ℕ) (few : L ≤ 1024) where
   at-grid : (x : ℕ) → x < L * 16 → nth board x ≡ gridEntry list L x
   unfolding unmarked unmarkedOf grid
   at-grid x l = below-ends x (omega arith)
-      ∙ filled-before grid 16384 marks (markAt list m e L) x (omega arith)
+      ∙ filled-before grid 16384 marks (markAt (list .n) (list .rates) m e L) x (omega arith)
       ∙ ap (nth grid) (omega arith)
       ∙ filled-at (replicate 17763 0) 0 (L * 16) (gridEntry list L) x l (rw (length-replicate {A = ℕ} 17763 0) (omega arith))
 
   -- the marks
-  at-mark : (p x : ℕ) → p ≡ 16384 + x → x < marks → nth board p ≡ markAt list m e L x
+  at-mark : (p x : ℕ) → p ≡ 16384 + x → x < marks → nth board p ≡ markAt (list .n) (list .rates) m e L x
   unfolding unmarked unmarkedOf grid
-  at-mark p x z l = ap (nth board) z ∙ below-ends (16384 + x) (omega arith) ∙ filled-at grid 16384 marks (markAt list m e L) x l (rw grid-length (omega arith))
+  at-mark p x z l = ap (nth board) z ∙ below-ends (16384 + x) (omega arith) ∙ filled-at grid 16384 marks (markAt (list .n) (list .rates) m e L) x l (rw grid-length (omega arith))
 
   -- before the mark no entry of the slot is odd
   at-ends : (t v : ℕ) → t < L → v < list .n → list .n ≤ 16 → v < nth board (16739 + t) → nth board (t * 16 + v) % 2 ≡ 0
@@ -150,7 +150,7 @@ few-even m r l beyond = test-same _ _
     (λ la. zero-even (r (x / 4)) (r (x % 4)) (inl (beyond (x / 4) la (omega arith))))
     (lt-or-ge (x / 4) m)))
 
-module _ {m : ℕ} (list : TaskList) (s : SoundList m (rows list)) (e : ℕ) where
+module _ {m : ℕ} (list : TaskList) (s : SoundList m (rows list)) where
   -- a task of the instance is one of the list's
   pub is-task : (v : ℕ) → v < length (rows list) → (v < list .n) × (task (rows list) (suc v) ≡ taskAt list v)
   is-task v l = let k : v < list .n = rw (rows-length list) at l in (k, rows-task list v k)
@@ -172,39 +172,42 @@ module _ {m : ℕ} (list : TaskList) (s : SoundList m (rows list)) (e : ℕ) whe
   twin-same a b la lb = ap (λ n. all n (λ v. eqb (nth (list .rates) (v * 4 + a)) (nth (list .rates) (v * 4 + b)))) (sym (rows-length list))
       ∙ all-same (length (rows list)) _ _ (λ v l. ap₂ eqb (rate-same v a l la) (rate-same v b l lb))
 
-  -- the marks of the list's own table
-  mark-at : (p x : ℕ) → p ≡ 16384 + x → x < marks → nth (boardOf list m e (tableLength (rows list)) (replicate 17763 0)) p ≡ markAt list m e (tableLength (rows list)) x
-  unfolding board
-  mark-at = at-mark list m e (tableLength (rows list)) (s .few-slots)
+  module _ (e : ℕ) where
+    -- the marks of the list's own table
+    mark-at : (p x : ℕ) → p ≡ 16384 + x → x < marks → nth (boardOf list m e (tableLength (rows list)) (replicate 17763 0)) p ≡ markAt (list .n) (list .rates) m e (tableLength (rows list)) x
+    unfolding board
+    mark-at = at-mark list m e (tableLength (rows list)) (s .few-slots)
 
-  -- the board is ready for the instance
-  pub board-ready : Ready (ownInstance m (rows list)) e (boardOf list m e (tableLength (rows list)) (replicate 17763 0))
-  unfolding board instanceOf quickMark
-  board-ready = record {
-    slots = mark-at 16482 slots refl (omega arith) ∙ at-slots _ _ _ _ _ refl;
-    cores = mark-at 16481 cores refl (omega arith) ∙ at-cores _ _ _ _ _ refl;
-    tasks = mark-at 16480 tasks refl (omega arith) ∙ at-tasks _ _ _ _ _ refl ∙ sym (rows-length list);
-    entries = λ t v lt lv. let k = is-task v lv in
-        at-grid list m e (tableLength (rows list)) (s .few-slots) (t * 16 + v) (omega (arith, rows-length list, s .few-tasks))
-        ∙ grid-at list (tableLength (rows list)) t v (omega (arith, rows-length list, s .few-tasks)) (k .0)
-        ∙ ap (λ τ. entryFor (tableLength (rows list)) τ (suc v) t) (sym (k .1)) ∙ entry-same (tableLength (rows list)) m (rows list) (suc v) t;
-    ends = λ t v lt lv z.
-        at-ends list m e (tableLength (rows list)) (s .few-slots) t v lt (is-task v lv .0) (omega (arith, rows-length list, s .few-tasks)) z;
-    rates = λ v j lv lj. let few : j < 4 = omega (arith, s .few-cores) in let small : v < 16 = omega (arith, s .few-tasks) in
-        mark-at (16384 + (v * 4 + j)) (v * 4 + j) refl (omega arith) ∙ at-rate _ _ _ _ _ (omega arith) ∙ rate-same v j lv few;
-    fits = λ v j w lv lj. let few : j < 4 = omega (arith, s .few-cores) in let small : v < 16 = omega (arith, s .few-tasks) in
-        let cap : min w 15 < 16 = omega (arith, min-le-right w 15) in
-        ap (λ x. has (x % 16) 0 j) (mark-at (16483 + (v * 16 + min w 15)) (fits + (v * 16 + min w 15)) (omega arith) (omega arith) ∙ at-fit _ _ _ _ _ _ refl)
-        ∙ mark-has (list .rates) v (min w 15) j cap few
-        ∙ ap (λ r. ltb 0 r && leb r (min w 15)) (rate-same v j lv few)
-        ∙ ap (λ b. ltb 0 (rate (task (rows list) (suc v)) j) && b)
-        (up-to-15 (rate (task (rows list) (suc v)) j) w (s .in-range (suc v) (omega arith) lv .rate-le j few));
-    evens = λ v lv. let small : v < 16 = omega (arith, s .few-tasks) in
-        mark-at (16448 + v) (evens + v) (omega arith) (omega arith) ∙ at-even _ _ _ _ _ _ refl small ∙ ap (λ b. gate (isQuick e && b) 1) (even-same v lv);
-    twins = λ a j la lj. let few : a < 4 = omega (arith, s .few-cores) in let less : j < 4 = omega arith in
-        mark-at (16464 + (a * 4 + j)) (twins + (a * 4 + j)) (omega arith) (omega arith) ∙ at-twin _ _ _ _ _ _ refl (omega arith)
-        ∙ ap (λ b. gate (isQuick e && b) 1) (ap₂ (coresTwin (list .n) (list .rates)) (digits-mod a less) (digits-div a less) ∙ twin-same j a less few);
-  }
+    -- the board is ready for the instance
+    pub board-ready : Ready (ownInstance m (rows list)) e (boardOf list m e (tableLength (rows list)) (replicate 17763 0))
+    unfolding board instanceOf quickMark
+    board-ready = record {
+      slots = mark-at 16482 slots refl (omega arith) ∙ at-size _ _ _ _ _ slots (omega arith) (omega arith) ∙ sym (size-slots _ _ _ slots (omega arith) (omega arith));
+      cores = mark-at 16481 cores refl (omega arith) ∙ at-size _ _ _ _ _ cores (omega arith) (omega arith) ∙ sym (size-cores _ _ _ cores refl);
+      tasks = mark-at 16480 tasks refl (omega arith) ∙ at-size _ _ _ _ _ tasks (omega arith) (omega arith) ∙ sym (size-tasks _ _ _ tasks refl) ∙ sym (rows-length list);
+      entries = λ t v lt lv. let k = is-task v lv in
+          at-grid list m e (tableLength (rows list)) (s .few-slots) (t * 16 + v) (omega (arith, rows-length list, s .few-tasks))
+          ∙ grid-at list (tableLength (rows list)) t v (omega (arith, rows-length list, s .few-tasks)) (k .0)
+          ∙ ap (λ τ. entryFor (tableLength (rows list)) τ (suc v) t) (sym (k .1)) ∙ entry-same (tableLength (rows list)) m (rows list) (suc v) t;
+      ends = λ t v lt lv z.
+          at-ends list m e (tableLength (rows list)) (s .few-slots) t v lt (is-task v lv .0) (omega (arith, rows-length list, s .few-tasks)) z;
+      rates = λ v j lv lj. let few : j < 4 = omega (arith, s .few-cores) in let small : v < 16 = omega (arith, s .few-tasks) in
+          mark-at (16384 + (v * 4 + j)) (v * 4 + j) refl (omega arith) ∙ at-rate _ _ _ _ _ _ (omega arith) ∙ rate-same v j lv few;
+      fits = λ v j w lv lj. let few : j < 4 = omega (arith, s .few-cores) in let small : v < 16 = omega (arith, s .few-tasks) in
+          let cap : min w 15 < 16 = omega (arith, min-le-right w 15) in
+          ap (λ x. has (x % 16) 0 j) (mark-at (16483 + (v * 16 + min w 15)) (fits + (v * 16 + min w 15)) (omega arith) (omega arith) ∙ at-fit _ _ _ _ _ _ (omega arith) ∙ ap (fitMark (list .rates)) (omega arith))
+          ∙ mark-has (list .rates) v (min w 15) j cap few
+          ∙ ap (λ r. ltb 0 r && leb r (min w 15)) (rate-same v j lv few)
+          ∙ ap (λ b. ltb 0 (rate (task (rows list) (suc v)) j) && b)
+          (up-to-15 (rate (task (rows list) (suc v)) j) w (s .in-range (suc v) (omega arith) lv .rate-le j few));
+      evens = λ v lv. let small : v < 16 = omega (arith, s .few-tasks) in
+          mark-at (16448 + v) (evens + v) (omega arith) (omega arith) ∙ at-rule _ _ _ _ _ _ (omega arith) (omega arith)
+          ∙ ap (λ b. gate (isQuick e && b) 1) (test-even _ _ _ (omega arith) ∙ ap (rowEven (list .rates)) (omega arith) ∙ even-same v lv);
+      twins = λ a j la lj. let few : a < 4 = omega (arith, s .few-cores) in let less : j < 4 = omega arith in let y-same : twins + (a * 4 + j) - twins ≡ a * 4 + j = omega arith in
+          mark-at (16464 + (a * 4 + j)) (twins + (a * 4 + j)) (omega arith) (omega arith) ∙ at-rule _ _ _ _ _ _ (omega arith) (omega arith)
+          ∙ ap (λ b. gate (isQuick e && b) 1) (test-twin _ _ _ (omega arith)
+          ∙ ap (λ y. coresTwin (list .n) (list .rates) (y % 4) (y / 4)) y-same ∙ ap₂ (coresTwin (list .n) (list .rates)) (digits-mod a less) (digits-div a less) ∙ twin-same j a less few);
+    }
 
 -- ---- what the walk asks of a board that was filled
 module _ (m : ℕ) (list : TaskList) (e L : ℕ) (sound : IsSound m (rows list)) (eL : L ≡ tableLength (rows list))

@@ -24,7 +24,7 @@ use Rattle.windows.specs.declared.Window.the-variants.{Open, Closed}
 use Rattle.windows.specs.Answer.{openIf, windowAt}
 use Rattle.tasks.proofs.WindowLaws.{pos-T, job-lt}
 use Rattle.board.specs.Ready.{isQuick}
-use Rattle.fill.specs.Board.{Fit, entryFor, gridEntry, evenPair, pairEven, rowEven, coresTwin, quickMark, fitMark, evens, twins, tasks, cores, slots, fits, marks, markAt, endMark, unmarkedOf, boardOf}
+use Rattle.fill.specs.Board.{Fit, entryFor, gridEntry, evenPair, rowEven, coresTwin, quickMark, fitMark, evens, twins, tasks, cores, fits, marks, ruleTest, sizeAt, markAt, endMark, unmarkedOf, boardOf}
 
 -- ---- places stored one after the other
 module _ (s : List ℕ) (g : ℕ → ℕ) where
@@ -127,11 +127,6 @@ module _ (x y : ℕ) where
   unfolding evenPair
   both-positive a b = rw (lt-ltb 0 x (omega arith), lt-ltb 0 y (omega arith))
 
--- one pair of a task's rates is not even
-pub pair-fails : (rates : List ℕ) (v x : ℕ) (r : Bool) → x < 16 → r ≡ evenPair (nth rates (v * 4 + x / 4)) (nth rates (v * 4 + x % 4)) → r ≡ false → false ≡ rowEven rates v
-unfolding rowEven pairEven
-pair-fails rates v x r l e f = one-fails 16 (pairEven rates v) x r l e f
-
 -- ---- a mark of the quick engine
 module _ (e : ℕ) (b : Bool) where
   -- the plain engine has none
@@ -157,55 +152,58 @@ module _ (e : ℕ) (b : Bool) where
       go (suc e) x = rw t
 
 -- ---- the marks, by their places
-module _ (list : TaskList) (m e L x : ℕ) where
+module _ (n : ℕ) (rates : List ℕ) (x : ℕ) where
+  -- rule A's test
+  pub test-even : x < twins → ruleTest n rates x ≡ rowEven rates (x - evens)
+  unfolding ruleTest
+  test-even l = rw (lt-ltb x twins l)
+
+  -- rule B's
+  pub test-twin : twins ≤ x → ruleTest n rates x ≡ coresTwin n rates ((x - twins) % 4) ((x - twins) / 4)
+  unfolding ruleTest
+  test-twin l = rw (le-ltb x twins l)
+
+-- three numbers
+module _ (n m L x : ℕ) where
+  -- the tasks
+  pub size-tasks : x ≡ tasks → n ≡ sizeAt n m L x
+  unfolding sizeAt
+  size-tasks z = rw z
+
+  -- the cores
+  pub size-cores : x ≡ cores → m ≡ sizeAt n m L x
+  unfolding sizeAt
+  size-cores z = rw z
+
+  -- the slots
+  pub size-slots : x ≢ tasks → x ≢ cores → L ≡ sizeAt n m L x
+  unfolding sizeAt
+  size-slots a b = rw (ne-eqb x tasks a, ne-eqb x cores b)
+
+module _ (n : ℕ) (rates : List ℕ) (m e L x : ℕ) where
   -- a rate
-  pub at-rate : x < evens → markAt list m e L x ≡ nth (list .rates) x
+  pub at-rate : x < evens → markAt n rates m e L x ≡ nth rates x
   unfolding markAt
   at-rate l = rw (lt-ltb x evens l)
 
-  -- rule A's
-  pub at-even : (v : ℕ) → x ≡ evens + v → v < 16 → markAt list m e L x ≡ quickMark e (rowEven (list .rates) v)
+  -- a mark of rule A or B
+  pub at-rule : evens ≤ x → x < tasks → markAt n rates m e L x ≡ quickMark e (ruleTest n rates x)
   unfolding markAt
-  at-even v z l = rw (le-ltb x evens (omega arith), lt-ltb x twins (omega arith)) (ap (λ v. quickMark e (rowEven (list .rates) v)) (omega arith))
+  at-rule k l = rw (le-ltb x evens k, lt-ltb x tasks l)
 
-  -- rule B's
-  pub at-twin : (y : ℕ) → x ≡ twins + y → y < 16 → markAt list m e L x ≡ quickMark e (coresTwin (list .n) (list .rates) (y % 4) (y / 4))
+  -- a number
+  pub at-size : tasks ≤ x → x < fits → markAt n rates m e L x ≡ sizeAt n m L x
   unfolding markAt
-  at-twin y z l =
-      rw (le-ltb x evens (omega arith), le-ltb x twins (omega arith), lt-ltb x tasks (omega arith))
-      (ap (λ y. quickMark e (coresTwin (list .n) (list .rates) (y % 4) (y / 4))) (omega arith))
-
-  -- the tasks
-  pub at-tasks : x ≡ tasks → markAt list m e L x ≡ list .n
-  unfolding markAt
-  at-tasks z = rw z
-
-  -- the cores
-  pub at-cores : x ≡ cores → markAt list m e L x ≡ m
-  unfolding markAt
-  at-cores z = rw z
-
-  -- the slots
-  pub at-slots : x ≡ slots → markAt list m e L x ≡ L
-  unfolding markAt
-  at-slots z = rw z
+  at-size k l = rw (le-ltb x evens (omega arith), le-ltb x tasks k, lt-ltb x fits l)
 
   -- the cores on which a rate fits
-  pub at-fit : (y : ℕ) → x ≡ fits + y → markAt list m e L x ≡ fitMark (list .rates) y
+  pub at-fit : fits ≤ x → markAt n rates m e L x ≡ fitMark rates (x - fits)
   unfolding markAt
-  at-fit y z =
-      rw (
-        le-ltb x evens (omega arith),
-        le-ltb x twins (omega arith),
-        le-ltb x tasks (omega arith),
-        ne-eqb x tasks (omega arith),
-        ne-eqb x cores (omega arith),
-        ne-eqb x slots (omega arith),
-      ) (ap (fitMark (list .rates)) (omega arith))
+  at-fit k = rw (le-ltb x evens (omega arith), le-ltb x tasks (omega arith), le-ltb x fits k)
 
 -- ---- the board
 pub board-filled : (list : TaskList) (m e L : ℕ) (s grid marked ends : List ℕ) → grid ≡ filled s 0 (L * 16) (gridEntry list L)
-    → marked ≡ filled grid 16384 marks (markAt list m e L) → ends ≡ filled marked 16739 L (endMark marked (list .n)) → ends ≡ boardOf list m e L s
+    → marked ≡ filled grid 16384 marks (markAt (list .n) (list .rates) m e L) → ends ≡ filled marked 16739 L (endMark marked (list .n)) → ends ≡ boardOf list m e L s
 unfolding boardOf unmarkedOf
 board-filled list m e L s grid marked ends eg em ee = rw (ee, em, eg)
 

@@ -84,16 +84,21 @@ fits = 99
 abbrev pub marks : ℕ
 marks = 355
 
--- what stands there: the rates, rule A's marks, rule B's, four a core, the tasks, the cores, the slots, and the cores on which rates fit
-unfoldable pub markAt : TaskList → ℕ → ℕ → ℕ → ℕ → ℕ
-markAt list m e L x =
-    cond (ltb x evens) (nth (list .rates) x)
-    (cond (ltb x twins) (quickMark e (rowEven (list .rates) (x - evens)))
-    (cond (ltb x tasks) (quickMark e (coresTwin (list .n) (list .rates) ((x - twins) % 4) ((x - twins) / 4)))
-    (cond (eqb x tasks) (list .n)
-    (cond (eqb x cores) m
-    (cond (eqb x slots) L
-    (fitMark (list .rates) (x - fits)))))))
+-- the test for the mark at place x: rule A's of a task, and then rule B's of two cores
+unfoldable pub ruleTest : ℕ → List ℕ → ℕ → Bool
+ruleTest n rates x = cond (ltb x twins) (rowEven rates (x - evens)) (coresTwin n rates ((x - twins) % 4) ((x - twins) / 4))
+
+-- the number at place x: the tasks, the cores, the slots
+unfoldable pub sizeAt : ℕ → ℕ → ℕ → ℕ → ℕ
+sizeAt n m L x = cond (eqb x tasks) n (cond (eqb x cores) m L)
+
+-- what stands at place x: the rates, the marks of rules A and B, the three numbers, the cores on which rates fit
+unfoldable pub markAt : ℕ → List ℕ → ℕ → ℕ → ℕ → ℕ → ℕ
+markAt n rates m e L x =
+    cond (ltb x evens) (nth rates x)
+    (cond (ltb x tasks) (quickMark e (ruleTest n rates x))
+    (cond (ltb x fits) (sizeAt n m L x)
+    (fitMark rates (x - fits))))
 
 -- the first task whose job has its highest-numbered slot in this slot of the grid, n if there is none
 unfoldable pub endMark : List ℕ → ℕ → ℕ → ℕ
@@ -101,7 +106,7 @@ endMark grid n t = seek n (λ v. nth grid (t * 16 + v) % 2)
 
 -- the board for a list on m cores in L slots, by engine e, but for the marks of ends
 unfoldable pub unmarkedOf : TaskList → ℕ → ℕ → ℕ → List ℕ → List ℕ
-unmarkedOf list m e L s = filled (filled s 0 (L * 16) (gridEntry list L)) 16384 marks (markAt list m e L)
+unmarkedOf list m e L s = filled (filled s 0 (L * 16) (gridEntry list L)) 16384 marks (markAt (list .n) (list .rates) m e L)
 
 -- the whole board
 unfoldable pub boardOf : TaskList → ℕ → ℕ → ℕ → List ℕ → List ℕ

@@ -1,16 +1,14 @@
 // The board of a sound list: the grid of entries, the marks behind it, and the marks of the slots in which jobs end.
 ghost use mathlib.Core.Path.{_≡_};
-ghost use mathlib.Core.Bool.{Bool};
 ghost use Prim.Native.Nat.{ℕ, suc, _*_, _≤_, _<_, _/_, _%_};
 ghost use Rattle.laws.specs.Lists.{filled};
 ghost use Rattle.tasks.specs.Task.{taskAt};
-ghost use Rattle.fill.specs.Board.{Fit, entryFor, gridEntry, evenPair, rowEven, coresTwin, quickMark, fitBit, fitMark, markAt, endMark, boardOf};
+ghost use Rattle.fill.specs.Board.{Fit, entryFor, gridEntry, evenPair, pairEven, rowEven, coresTwin, quickMark, fitBit, fitMark, ruleTest, sizeAt, markAt, endMark, boardOf};
 use board::CORES;
 use board::ENDS;
 use board::EVEN;
 use board::FITS;
 use board::RATES;
-use board::SLOTS;
 use board::TASKS;
 use board::TWINS;
 use tasks::Slots;
@@ -29,8 +27,6 @@ const TWIN_MARKS: usize = TWINS - RATES;
 const TASK_COUNT: usize = TASKS - RATES;
 
 const CORE_COUNT: usize = CORES - RATES;
-
-const SLOT_COUNT: usize = SLOTS - RATES;
 
 const FIT_MARKS: usize = FITS - RATES;
 
@@ -108,6 +104,14 @@ fn even_pair(x: u8, y: u8) -> bool
     x == y
 }
 
+// The same of the rates of task v on cores x / 4 and x % 4.
+fn pair_even(rates: [u8; 64], v: usize, x: usize) -> bool
+    requires { ⌜ (v < 16) × (x < 16) ⌝ }
+    ensures { λ r. ⌜ r ≡ pairEven rates v x ⌝ }
+{
+    even_pair(rates[v * 4 + x / 4], rates[v * 4 + x % 4])
+}
+
 // Whether all positive rates of task v are equal.
 fn even_rates(rates: [u8; 64], v: usize) -> bool
     requires { ⌜ v < 16 ⌝ }
@@ -115,7 +119,7 @@ fn even_rates(rates: [u8; 64], v: usize) -> bool
 {
     let mut x: usize = 0;
     while x < 16 {
-        if !even_pair(rates[v * 4 + x / 4], rates[v * 4 + x % 4]) {
+        if !pair_even(rates, v, x) {
             return false;
         }
         x += 1;
@@ -171,41 +175,56 @@ fn fit_mark(rates: [u8; 64], x: usize) -> u16
         + 8 * fit_bit(rates[k + 3], work)
 }
 
-// What stands x places behind the first rate.
-fn mark(list: TaskList, m: u8, engine: u8, len: Slots, x: usize) -> u16
-    requires { ⌜ (list .n ≤ 16) × (x < 355) ⌝ }
-    ensures { λ r. ⌜ r ≡ markAt list m engine (len .0) x ⌝ }
+// The test for the mark at place x: rule A's of a task, and then rule B's of two cores.
+fn rule_test(n: u8, rates: [u8; 64], x: usize) -> bool
+    requires { ⌜ (n ≤ 16) × (64 ≤ x) × (x < 96) ⌝ }
+    ensures { λ r. ⌜ r ≡ ruleTest n rates x ⌝ }
 {
-    let rates = list.rates;
-    if x < EVEN_MARKS {
-        return wide(rates[x]);
-    }
     if x < TWIN_MARKS {
-        return quick_mark(engine, even_rates(rates, x - EVEN_MARKS));
+        even_rates(rates, x - EVEN_MARKS)
+    } else {
+        twin_cores(n as usize, rates, x - TWIN_MARKS)
     }
-    if x < TASK_COUNT {
-        return quick_mark(engine, twin_cores(list.n as usize, rates, x - TWIN_MARKS));
-    }
+}
+
+// The number at place x: the tasks, the cores, the slots.
+fn size(n: u8, m: u8, slots: u16, x: usize) -> u16
+    ensures { λ r. ⌜ r ≡ sizeAt n m slots x ⌝ }
+{
     if x == TASK_COUNT {
-        return list.n as u16;
+        return n as u16;
     }
     if x == CORE_COUNT {
         return m as u16;
     }
-    if x == SLOT_COUNT {
-        return len.0;
+    slots
+}
+
+// What stands x places behind the first rate.
+fn mark(n: u8, rates: [u8; 64], m: u8, engine: u8, slots: u16, x: usize) -> u16
+    requires { ⌜ (n ≤ 16) × (x < 355) ⌝ }
+    ensures { λ r. ⌜ r ≡ markAt n rates m engine slots x ⌝ }
+{
+    if x < EVEN_MARKS {
+        return wide(rates[x]);
+    }
+    if x < TASK_COUNT {
+        return quick_mark(engine, rule_test(n, rates, x));
+    }
+    if x < FIT_MARKS {
+        return size(n, m, slots, x);
     }
     fit_mark(rates, x - FIT_MARKS)
 }
 
 // The marks, behind the grid.
-fn fill_marks(board: &mut [u16; 17763], list: TaskList, m: u8, engine: u8, len: Slots)
-    requires { ⌜ list .n ≤ 16 ⌝ }
-    ensures { λ _. ⌜ now (board .exit) ≡ filled (now (board .entry)) 16384 355 (markAt list m engine (len .0)) ⌝ }
+fn fill_marks(board: &mut [u16; 17763], n: u8, rates: [u8; 64], m: u8, engine: u8, slots: u16)
+    requires { ⌜ n ≤ 16 ⌝ }
+    ensures { λ _. ⌜ now (board .exit) ≡ filled (now (board .entry)) 16384 355 (markAt n rates m engine slots) ⌝ }
 {
     let mut x: usize = 0;
     while x < MARKS {
-        board[RATES + x] = mark(list, m, engine, len, x);
+        board[RATES + x] = mark(n, rates, m, engine, slots, x);
         x += 1;
     }
 }
@@ -244,6 +263,7 @@ pub fn fill_board(board: &mut [u16; 17763], list: TaskList, m: u8, engine: u8, l
     ensures { λ _. ⌜ now (board .exit) ≡ boardOf list m engine (len .0) (now (board .entry)) ⌝ }
 {
     fill_grid(board, list, len);
-    fill_marks(board, list, m, engine, len);
+    let rates = list.rates;
+    fill_marks(board, list.n, rates, m, engine, len.0);
     fill_ends(board, list.n as usize, len.0 as usize);
 }

@@ -1,7 +1,7 @@
 -- Demands 2 and 3 of the search, over its own contract: what a call answers, and what it leaves in the buffer, is what the definition says.
 -- Assumes nothing.
 use Prim.Native.Nat.{ℕ, suc, _≤_}
-use mathlib.Core.Path.{_≡_, sym, ap, _∙_}
+use mathlib.Core.Path.{_≡_, ap, _∙_}
 use mathlib.Core.List.{List}
 use lib.ListN.{length}
 use Rattle.tasks.specs.declared.TaskList.{TaskList}

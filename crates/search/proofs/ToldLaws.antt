@@ -3,7 +3,7 @@
 use Prim.Native.Nat.{ℕ, zero, suc, _+_, _*_, _-_, _/_, _%_, _≤_, _<_}
 use native.Mathlib.Omega.{arith}
 use native.Mathlib.Nat.{zero-mul, zero-add, mul-pos, div-le-self}
-use mathlib.Core.Path.{_≡_, refl, sym, ap, ap₂, subst, _∙_}
+use mathlib.Core.Path.{_≡_, refl, sym, ap, ap₂, subst, subst₂, _∙_}
 use mathlib.Core.Logic.{_≢_, ⊎-elim}
 use mathlib.Core.Bool.{Bool, true, false}
 use mathlib.Core.List.{List}
@@ -26,14 +26,14 @@ use Rattle.rules.specs.Walk.{Result, tries, spend, ended, cap, limited}
 use Rattle.rules.specs.Right.{ownInstance}
 use Rattle.rules.specs.Search.{walked, told}
 use Rattle.board.specs.Board.{coresOn, setsOn}
-use Rattle.walk.specs.Machine.{End, Found, Nothing, Stopped, packed, State, walkOn, firstOn, cellsLeft, full, Leaves, Ran}
+use Rattle.walk.specs.Machine.{End, Found, Nothing, Stopped, packed, State, walkOn, firstOn, cellsLeft, full, Ran}
 use Rattle.board.specs.Ready.{counterOf, Ready, Lefts}
 use Rattle.walk.proofs.TurnLaws.{packed-nothing, packed-found, packed-stopped}
 use Rattle.walk.proofs.RefineLaws.{toldAt, Shows, shows-same, walk-limited}
 use Rattle.search.specs.declared.Answer.{Answer}
 use Rattle.fill.specs.Board.{boardOf}
 use Rattle.fill.proofs.BoardLaws.{is-task, instance-small, filled-ready}
-use Rattle.search.specs.Told.{workAt, verdictOf, answerOf, cellLeft, walkTold, toldOf}
+use Rattle.search.specs.Told.{workAt, leftOf, Walks, verdictOf, answerOf, cellLeft, walkTold, toldOf}
 use Rattle.search.proofs.AnswerLaws.{few-cells}
 
 -- ---- tries counted from u on
@@ -136,10 +136,15 @@ told-end Found n u k t buffer long room = λ i. record {
 told-end Stopped n u k t buffer long room = λ i. record { verdict = 14; tries = k - u; buffer = cleared n buffer room i }
 
 -- ---- the counters
+-- as many as the array has
+left-length : (list : TaskList) → length (leftOf list) ≡ 32768
+unfolding leftOf
+left-length list = filled-length (replicate 32768 0) 0 16384 (workAt (list .work)) ∙ length-replicate {A = ℕ} 32768 0
+
 module _ {m : ℕ} (list : TaskList) (s : SoundList m (rows list)) where
   -- the counters hold each job's whole work
-  lefts-start : (t : List ℕ) → Lefts (ownInstance m (rows list)) 0 (nth t) (filled (replicate 32768 0) 0 16384 (workAt (list .work)))
-  unfolding instanceOf done sum taskAt
+  lefts-start : (t : List ℕ) → Lefts (ownInstance m (rows list)) 0 (nth t) (leftOf list)
+  unfolding leftOf instanceOf done sum taskAt
   lefts-start t = record {
     counters = counters;
     none-closed = filled-behind (replicate 32768 0) 0 16384 (workAt (list .work)) 16384 (omega arith) ∙ getD-replicate {A = ℕ} 32768 16384 0 0 (omega arith);
@@ -154,12 +159,18 @@ module _ {m : ℕ} (list : TaskList) (s : SoundList m (rows list)) where
           ap (nth (filled (replicate 32768 0) 0 16384 (workAt (list .work)))) (sym (zero-add (k * 16 + v)))
           ∙ filled-at (replicate 32768 0) 0 16384 (workAt (list .work)) (k * 16 + v) (omega arith) (rw (length-replicate {A = ℕ} 32768 0) (omega arith))
           ∙ ap (nth (list .work)) (digits-mod k w)
-          ∙ sym (ap (λ τ. τ .work .0) (is-task list s 0 v l .1))
+          ∙ sym (ap (λ τ. τ .work .0) (is-task list s v l .1))
           ∙ omega arith
+
+-- ---- a walk over the filled arrays
+pub filled-walks : (list : TaskList) (m e L u : ℕ) (t : List ℕ) (r : ℕ) (t′ board left l : List ℕ) → board ≡ boardOf list m e L (replicate 17763 0)
+    → left ≡ filled (replicate 32768 0) 0 16384 (workAt (list .work)) → Ran board 0 (setsOn board left 0) t left u r t′ l → Walks list m e L u t r t′
+unfolding leftOf
+filled-walks list m e L u t r t′ board left l eb el ran = record { left = l; ran = subst₂ (λ board left. Ran board 0 (setsOn board left 0) t left u r t′ l) eb el ran }
 
 -- ---- the walk on the filled arrays, from as many tries as leave b
 module _ (m : ℕ) (list : TaskList) (e b L : ℕ) (sound : IsSound m (rows list)) (eL : L ≡ tableLength (rows list)) (lb : b < 4294967296)
-    (board left : List ℕ) (eb : board ≡ boardOf list m e L (replicate 17763 0)) (el : left ≡ filled (replicate 32768 0) 0 16384 (workAt (list .work))) where
+    (board left : List ℕ) (eb : board ≡ boardOf list m e L (replicate 17763 0)) (el : left ≡ leftOf list) where
   -- what the list has
   sound-parts : SoundList m (rows list)
   sound-parts = sound-list m (rows list) sound
@@ -189,7 +200,7 @@ module _ (m : ℕ) (list : TaskList) (e b L : ℕ) (sound : IsSound m (rows list
       (walk-limited (instance-small list sound-parts) e full board ready (replicate 4096 0) left
       (subst (Lefts (ownInstance m (rows list)) 0 (nth (replicate 4096 0))) (sym el) (lefts-start list sound-parts (replicate 4096 0)))
       (rw (length-replicate {A = ℕ} 4096 0) (omega (arith, few, ap (λ n. n * m) eL)))
-      (ap length el ∙ filled-length (replicate 32768 0) 0 16384 (workAt (list .work)) ∙ length-replicate {A = ℕ} 32768 0)
+      (ap length el ∙ left-length list)
       (full - b) (omega arith))
 
   module _ (r : ℕ) (t l : List ℕ) (ran : Ran board 0 (setsOn board left 0) (replicate 4096 0) left (full - b) r t l) where

@@ -1,22 +1,35 @@
--- What the search puts into the counters, and what it tells.
+-- What the search puts into the counters, what it walks over, and what it tells.
 -- Assumes nothing.
 use Prim.Native.Nat.{ℕ, _-_, _%_}
 use mathlib.Core.Bool.{Bool, cond}
 use mathlib.Core.List.{List}
 use lib.Dec.{leb}
-use Rattle.laws.specs.Lists.{nth}
+use lib.ListN.{replicate}
+use Rattle.laws.specs.Lists.{nth, filled}
 use Rattle.tasks.specs.declared.Task.{Task}
+use Rattle.tasks.specs.declared.TaskList.{TaskList}
 use Rattle.tasks.specs.Refusal.{unless}
 use Rattle.table.specs.Table.{cells}
 use Rattle.rules.specs.Walk.{limited}
 use Rattle.rules.specs.Right.{ownInstance}
 use Rattle.rules.specs.Search.{Searched, walked, told}
-use Rattle.walk.specs.Machine.{End, Found, Nothing, Stopped}
+use Rattle.board.specs.Board.{setsOn}
+use Rattle.walk.specs.Machine.{End, Found, Nothing, Stopped, Ran}
+use Rattle.fill.specs.Board.{boardOf}
 use Rattle.search.specs.declared.Answer.{Answer}
 
 -- the work of the job at a counter
 abbrev pub workAt : List ℕ → ℕ → ℕ
 workAt work x = nth work (x % 16)
+
+-- the counters of a list: each job's whole work
+unfoldable pub leftOf : TaskList → List ℕ
+leftOf list = filled (replicate 32768 0) 0 16384 (workAt (list .work))
+
+-- what a walk over the board and the counters of a list answers and leaves: from u tries and the cells t, the number r and the cells t′
+pub record Walks (list : TaskList) (m e L u : ℕ) (t : List ℕ) (r : ℕ) (t′ : List ℕ) : Type 0 where
+  pub left : List ℕ
+  pub ran : Ran (boardOf list m e L (replicate 17763 0)) 0 (setsOn (boardOf list m e L (replicate 17763 0)) (leftOf list) 0) t (leftOf list) u r t′ left
 
 -- the verdict of a walk that ends so
 unfoldable pub verdictOf : End → ℕ

@@ -7,7 +7,7 @@ ghost use Rattle.tasks.specs.Task.{rows};
 ghost use Rattle.tasks.specs.Refusal.{IsSound, tableLength};
 ghost use Rattle.rules.specs.Search.{search as searchOf};
 ghost use Rattle.walk.specs.Machine.{End, packed};
-ghost use Rattle.search.specs.Told.{workAt, answerOf, cellLeft, refusedBy, callRefusal, walkTold, toldOf};
+ghost use Rattle.search.specs.Told.{workAt, Walks, answerOf, cellLeft, refusedBy, callRefusal, walkTold, toldOf};
 use tasks::Slots;
 use tasks::Soundness;
 use tasks::TaskList;
@@ -80,19 +80,34 @@ fn told(w: u64, start: u32) -> Answer
     }
 }
 
-// The walk over a sound list, and what it leaves in the buffer.
-fn walk_list(list: TaskList, m: u8, engine: u8, limit: u32, len: Slots, table: &mut [u8]) -> Answer
-    requires { ⌜ IsSound m (rows list) × (len .0 ≡ tableLength (rows list)) × (engine ≤ 1) × (len .0 * m ≤ length (now table)) ⌝ }
-    ensures { λ r. ⌜ toldOf r (now (table .exit)) ≡ walkTold m (rows list) engine limit (now (table .entry)) ⌝ }
+// The walk over the cells of a sound list, from `start` tries on.
+fn walk_cells(
+    list: TaskList,
+    m: u8,
+    engine: u8,
+    len: Slots,
+    start: u32,
+    cells: &mut [u8; 4096],
+) -> u64
+    requires { ⌜ IsSound m (rows list) × (len .0 ≡ tableLength (rows list)) ⌝ }
+    ensures { λ r. ⌜ Walks list m engine (len .0) start (now (cells .entry)) r (now (cells .exit)) ⌝ }
 {
     let mut board = [0; 17763];
     let mut left = [0; 32768];
-    let mut cells = [0; 4096];
     fill::fill_board(&mut board, list, m, engine, len);
     let work = list.work;
     fill_left(&mut left, work);
+    walk::walk(cells, &board, &mut left, start)
+}
+
+// The walk over a sound list, and what it leaves in the buffer.
+fn walk_list(list: TaskList, m: u8, engine: u8, limit: u32, len: Slots, table: &mut [u8]) -> Answer
+    requires { ⌜ IsSound m (rows list) × (len .0 ≡ tableLength (rows list)) × (len .0 * m ≤ length (now table)) ⌝ }
+    ensures { λ r. ⌜ toldOf r (now (table .exit)) ≡ walkTold m (rows list) engine limit (now (table .entry)) ⌝ }
+{
+    let mut cells = [0; 4096];
     let start = walk::FULL - limit;
-    let w = walk::walk(&mut cells, &board, &mut left, start);
+    let w = walk_cells(list, m, engine, len, start, &mut cells);
     let answer = told(w, start);
     let n = len.0 as usize * m as usize;
     let found = answer.verdict == FOUND;

@@ -6,7 +6,7 @@ use Rattle.fill.proofs.fill_board.Statement.{statement}
 use Rattle.fill.proofs.fill_board.Tie as tie
 
 returns : tie.Need-returns
-returns c = board-filled _ _ _ _ _ _ _ _ (c .before .before .before .before .before .before .fill-grid .ensures) (c .before .before .before .before .fill-marks .ensures) (c .fill-ends .ensures)
+returns c = board-filled _ _ _ _ _ _ _ _ (c .before .before .before .before .before .before .before .fill-grid .ensures) (c .before .before .before .before .fill-marks .ensures) (c .fill-ends .ensures)
 
 pub fill-board-spec : {M : Type 1} → statement M
 fill-board-spec =

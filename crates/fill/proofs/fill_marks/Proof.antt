@@ -12,10 +12,10 @@ use Rattle.fill.proofs.fill_marks.Statement.{statement}
 use Rattle.fill.proofs.fill_marks.Tie as tie
 
 abbrev Inv-loop : tie.InvT-loop
-Inv-loop board₀ list m engine len x₀ board x = (x ≤ 355) × (board ≡ filled board₀ 16384 x (markAt list m engine (len .0)))
+Inv-loop board₀ n rates m engine slots x₀ board x = (x ≤ 355) × (board ≡ filled board₀ 16384 x (markAt n rates m engine slots))
 
 abbrev μ-loop : tie.MeasureT-loop
-μ-loop board₀ list m engine len x₀ board x = 355 - x
+μ-loop board₀ n rates m engine slots x₀ board x = 355 - x
 
 loop-holds : tie.Need-loop-holds Inv-loop μ-loop
 loop-holds c = (search needs, filled-none _ _ _)

@@ -4,35 +4,25 @@ use mathlib.Core.Path.{sym, ap, _∙_}
 use borrow.Author.Needs.{needs}
 use native.Mathlib.Omega.{arith}
 use Rattle.fill.specs.Board.{quickMark}
-use Rattle.fill.proofs.FillLaws.{at-rate, at-even, at-twin, at-tasks, at-cores, at-slots, at-fit}
+use Rattle.fill.proofs.FillLaws.{at-rate, at-rule, at-size, at-fit}
 use Rattle.fill.proofs.mark.Statement.{statement}
 use Rattle.fill.proofs.mark.Tie as tie
 
 returns : tie.Need-returns
-returns c = c .wide .ensures .0 ∙ sym (at-rate _ _ _ _ _ (omega arith))
+returns c = c .wide .ensures .0 ∙ sym (at-rate _ _ _ _ _ _ (omega arith))
 
 returns-2 : tie.Need-returns-2
-returns-2 c = c .quick-mark .ensures ∙ ap (quickMark _) (c .before .even-rates .ensures) ∙ sym (at-even _ _ _ _ _ _ (omega arith) (omega arith))
+returns-2 c = c .quick-mark .ensures ∙ ap (quickMark _) (c .before .rule-test .ensures) ∙ sym (at-rule _ _ _ _ _ _ (omega arith) (omega arith))
 
 returns-3 : tie.Need-returns-3
-returns-3 c = c .quick-mark2 .ensures ∙ ap (quickMark _) (c .before .twin-cores .ensures) ∙ sym (at-twin _ _ _ _ _ _ (omega arith) (omega arith))
+returns-3 c = c .size .ensures ∙ sym (at-size _ _ _ _ _ _ (omega arith) (omega arith))
 
 returns-4 : tie.Need-returns-4
-returns-4 c = sym (at-tasks _ _ _ _ _ (omega arith))
-
-returns-5 : tie.Need-returns-5
-returns-5 c = sym (at-cores _ _ _ _ _ (omega arith))
-
-returns-6 : tie.Need-returns-6
-returns-6 c = sym (at-slots _ _ _ _ _ (omega arith))
-
-returns-7 : tie.Need-returns-7
-returns-7 c = c .fit-mark .ensures ∙ sym (at-fit _ _ _ _ _ _ (omega arith))
+returns-4 c = c .fit-mark .ensures ∙ sym (at-fit _ _ _ _ _ _ (omega arith))
 
 pub mark-spec : {M : Type 1} → statement M
 mark-spec =
     tie.close
     (tie.spec
     (λ c. search needs) (λ c κs. search needs) returns (λ c κs. search needs) (λ c κs. search needs) returns-2
-    (λ c. search needs) (λ c κs. search needs) (λ c κs. search needs) returns-3 (λ c. search needs) returns-4 returns-5
-    returns-6 (λ c. search needs) (λ c κs. search needs) returns-7)
+    (λ c κs. search needs) returns-3 (λ c κs. search needs) returns-4)

@@ -12,8 +12,7 @@ mul-call-refusal c = let h = told-sound _ _ _ _ (c .before .before .before .befo
 walk-list-requires : tie.Need-walk-list-requires
 walk-list-requires c κs =
     let h = told-sound _ _ _ _ (c .before .before .before .before .before .before .before .test-list .ensures) (c .before .before .before .before .before .soundness2 .given .1) in
-    let may = not-refused _ _ _ _ (c .before .before .call-refusal .ensures) (c .before .if1 .taken) in
-    (h .0, h .1, may .0, may .1)
+    (h .0, h .1, not-refused _ _ _ _ (c .before .before .call-refusal .ensures) (c .before .if1 .taken) .1)
 
 returns : tie.Need-returns
 returns c = list-refused _ _ _ _ _ _ _ _ (c .before .before .before .before .test-list .ensures) (c .before .before .soundness .given .1) (c .refused .ensures)
