@@ -49,8 +49,6 @@ returns c =
     (omega arith, c .before .loop .inv .3 ∙ ap (λ n. sets (a .out .now) (a .at) (slotLines n (a .m) (a .table .now))) all)
 
 pub put-slots-spec : {M : Type 1} → statement M
-put-slots-spec =
-    tie.close
-    (tie.spec
-    Inv-loop μ-loop loop-holds slot-frame-requires put-frame-requires (λ c. search needs) (λ c. search needs) loop-again
-    (λ c. search needs) returns)
+put-slots-spec = tie.close (tie.spec
+    Inv-loop μ-loop loop-holds slot-frame-requires put-frame-requires (λ c. search needs) (λ c. search needs) loop-again (λ c. search needs)
+    returns)

@@ -10,8 +10,6 @@ unfolding slotFrame
 returns c = rw (c .before .before .before .cell-at .ensures, c .before .before .cell-at2 .ensures, c .before .cell-at3 .ensures, c .cell-at4 .ensures)
 
 pub slot-frame-spec : {M : Type 1} → statement M
-slot-frame-spec =
-    tie.close
-    (tie.spec
-    (λ c. search needs) (λ c. search needs) (λ c κs. search needs) (λ c κs. search needs) (λ c κs. search needs)
-    (λ c κs. search needs) returns)
+slot-frame-spec = tie.close (tie.spec
+    (λ c. search needs) (λ c. search needs) (λ c κs. search needs) (λ c κs. search needs) (λ c κs. search needs) (λ c κs. search needs)
+    returns)

@@ -11,7 +11,4 @@ unfolding verdictFrame
 returns c = refl
 
 pub verdict-frame-spec : {M : Type 1} → statement M
-verdict-frame-spec =
-    tie.close
-    (tie.spec
-    (λ c. search needs) (λ c. search needs) (λ c. search needs) (λ c. search needs) returns)
+verdict-frame-spec = tie.close (tie.spec (λ c. search needs) (λ c. search needs) (λ c. search needs) (λ c. search needs) returns)

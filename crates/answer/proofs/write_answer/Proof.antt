@@ -77,8 +77,6 @@ returns-2 c =
     (f .0) (f .1) (s .ensures .0) (s .ensures .1) (c .before .before .put-frame2 .ensures .0) (c .before .before .put-frame2 .ensures .1)
 
 pub write-answer-spec : {M : Type 1} → statement M
-write-answer-spec =
-    tie.close
-    (tie.spec
-    (λ c κs. search needs) returns (λ c κs. search needs) put-frame-requires put-slots-requires put-frame-requires-2
-    (λ c. search needs) returns-2)
+write-answer-spec = tie.close (tie.spec
+    (λ c κs. search needs) returns (λ c κs. search needs) put-frame-requires put-slots-requires put-frame-requires-2 (λ c. search needs)
+    returns-2)

@@ -31,8 +31,6 @@ returns-2 : tie.Need-returns-2 Inv-loop μ-loop
 returns-2 c = closes-yes _ _ _ _ _ (c .before .loop .inv .0) (c .loop-test .left) (c .before .loop .inv .2)
 
 pub closes-spec : {M : Type 1} → statement M
-closes-spec =
-    tie.close
-    (tie.spec
+closes-spec = tie.close (tie.spec
     Inv-loop μ-loop (λ c. search needs) (λ c κs. search needs) (λ c. search needs) (λ c. search needs) (λ c. search needs)
     (λ c κs. search needs) loop-holds (λ c κs. search needs) returns (λ c. search needs) (λ c. search needs) loop-again returns-2)

@@ -1,3 +1,5 @@
+-- `board::enter` meets its contract. The loop's invariant: the sets have the tasks passed, from the last on.
+-- Assumes nothing.
 use Prim.Native.Nat.{_-_, _≤_}
 use mathlib.Core.Path.{_≡_, _∙_}
 use native.Mathlib.Omega.{arith}
@@ -28,9 +30,6 @@ returns : tie.Need-returns Inv-loop μ-loop
 returns c = sets-all _ _ _ _ _ (omega (arith, c .loop-test .left)) (c .before .loop .inv .1)
 
 pub enter-spec : {M : Type 1} → statement M
-enter-spec =
-    tie.close
-    (tie.spec
-    Inv-loop μ-loop (λ c. search needs) (λ c κs. search needs) loop-holds (λ c. search needs) (λ c κs. search needs)
-    (λ c. search needs) (λ c. search needs) (λ c κs. search needs) pushed-requires (λ c. search needs) loop-again
-    returns)
+enter-spec = tie.close (tie.spec
+    Inv-loop μ-loop (λ c. search needs) (λ c κs. search needs) loop-holds (λ c. search needs) (λ c κs. search needs) (λ c. search needs)
+    (λ c. search needs) (λ c κs. search needs) pushed-requires (λ c. search needs) loop-again returns)

@@ -1,3 +1,5 @@
+-- `board::floor` meets its contract. The loop's invariant: the highest rank on the cores passed.
+-- Assumes nothing.
 use Prim.Native.Nat.{_-_, _≤_}
 use mathlib.Core.Path.{_≡_}
 use native.Mathlib.Omega.{arith}
@@ -26,7 +28,5 @@ returns : tie.Need-returns Inv-loop μ-loop
 returns c = floor-is _ _ _ _ (c .before .loop .j) _ (omega arith) (c .before .loop .inv .1)
 
 pub floor-spec : {M : Type 1} → statement M
-floor-spec =
-    tie.close
-    (tie.spec
+floor-spec = tie.close (tie.spec
     Inv-loop μ-loop loop-holds (λ c κs. search needs) (λ c. search needs) (λ c. search needs) loop-again returns)

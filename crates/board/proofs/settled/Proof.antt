@@ -1,3 +1,5 @@
+-- `board::settled` meets its contract.
+-- Assumes nothing.
 use Rattle.board.proofs.ReadLaws.{settled-open, settled-end}
 use borrow.Author.Needs.{needs}
 use Rattle.board.proofs.settled.Statement.{statement}
@@ -10,8 +12,6 @@ returns-2 : tie.Need-returns-2
 returns-2 c = settled-end _ _ _ _ _ (c .before .before .if1 .left) (c .before .counter .ensures .0)
 
 pub settled-spec : {M : Type 1} → statement M
-settled-spec =
-    tie.close
-    (tie.spec
-    (λ c. search needs) (λ c. search needs) (λ c. search needs) (λ c. search needs) returns (λ c κs. search needs)
-    (λ c. search needs) (λ c. search needs) returns-2)
+settled-spec = tie.close (tie.spec
+    (λ c. search needs) (λ c. search needs) (λ c. search needs) (λ c. search needs) returns (λ c κs. search needs) (λ c. search needs)
+    (λ c. search needs) returns-2)

@@ -1,3 +1,5 @@
+-- `board::twin_rank` meets its contract: the core is no twin, or idle, or has a task.
+-- Assumes nothing.
 use Rattle.board.proofs.ReadLaws.{twin-none, twin-idle, twin-task}
 use borrow.Author.Needs.{needs}
 use Rattle.board.proofs.twin_rank.Statement.{statement}
@@ -13,9 +15,6 @@ returns-3 : tie.Need-returns-3
 returns-3 c = (twin-task _ _ _ _ _ _ (c .before .before .before .if1 .left) (c .before .if2 .left) (c .byte .ensures .0), search needs)
 
 pub twin-rank-spec : {M : Type 1} → statement M
-twin-rank-spec =
-    tie.close
-    (tie.spec
-    (λ c. search needs) (λ c. search needs) (λ c. search needs) (λ c. search needs) (λ c. search needs) returns
-    (λ c. search needs) (λ c. search needs) (λ c. search needs) (λ c κs. search needs) (λ c. search needs) returns-2
-    (λ c κs. search needs) returns-3)
+twin-rank-spec = tie.close (tie.spec
+    (λ c. search needs) (λ c. search needs) (λ c. search needs) (λ c. search needs) (λ c. search needs) returns (λ c. search needs)
+    (λ c. search needs) (λ c. search needs) (λ c κs. search needs) (λ c. search needs) returns-2 (λ c κs. search needs) returns-3)

@@ -50,9 +50,6 @@ returns-4 c =
     (c .before .before .before .before .before .before .is-open .ensures) (c .before .before .before .before .before .free .ensures) (c .before .before .before .before .kind .ensures) (c .before .before .before .if3 .left) (c .before .before .job-at .ensures) (c .before .counter-of .ensures) (c .work-in .ensures)
 
 pub cell-effect-spec : {M : Type 1} → statement M
-cell-effect-spec =
-    tie.close
-    (tie.spec
-    mul-first add-value shared-slice-read-value returns returns-2 (λ c. search needs) (λ c. search needs)
-    task-at-requires array-read-rate is-open-requires free-requires (λ c κs. search needs) returns-3 job-at-requires
-    (λ c κs. search needs) work-in-requires returns-4)
+cell-effect-spec = tie.close (tie.spec
+    mul-first add-value shared-slice-read-value returns returns-2 (λ c. search needs) (λ c. search needs) task-at-requires array-read-rate
+    is-open-requires free-requires (λ c κs. search needs) returns-3 job-at-requires (λ c κs. search needs) work-in-requires returns-4)

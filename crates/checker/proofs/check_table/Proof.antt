@@ -36,8 +36,6 @@ returns-4 : tie.Need-returns-4
 returns-4 c = cell-told (ready (c .before .before)) (c .before .scan-cells .ensures) (c .match2 .keys2)
 
 pub check-table-spec : {M : Type 1} → statement M
-check-table-spec =
-    tie.close
-    (tie.spec
-    (λ c κs. search needs) (λ c. search needs) (λ c. search needs) (λ c. search needs) mul-if1 returns
-    scan-cells-requires enum-told scan-jobs-requires returns-2 returns-3 returns-4)
+check-table-spec = tie.close (tie.spec
+    (λ c κs. search needs) (λ c. search needs) (λ c. search needs) (λ c. search needs) mul-if1 returns scan-cells-requires enum-told
+    scan-jobs-requires returns-2 returns-3 returns-4)

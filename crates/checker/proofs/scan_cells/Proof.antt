@@ -68,10 +68,7 @@ returns-2 : tie.Need-returns-2 Inv-loop μ-loop Inv-scan μ-scan
 returns-2 c = stops-at (at (c .before .before .before .before)) (c .before .before .before .before .before .loop .inv .0) (c .before .before .before .cell-effect .ensures) (c .before .effect2 .given .1)
 
 pub scan-cells-spec : {M : Type 1} → statement M
-scan-cells-spec =
-    tie.close
-    (tie.spec
-    Inv-loop μ-loop Inv-scan μ-scan scan-holds loop-holds (λ c κs. search needs) (λ c. search needs) (λ c. search needs)
-    mul-done element-copy-out-done add-done element-write-done (λ c. search needs) (λ c. search needs)
-    (λ c. search needs) (λ c. search needs) loop-again (λ c. search needs) (λ c. search needs) scan-again returns
-    returns-2)
+scan-cells-spec = tie.close (tie.spec
+    Inv-loop μ-loop Inv-scan μ-scan scan-holds loop-holds (λ c κs. search needs) (λ c. search needs) (λ c. search needs) mul-done
+    element-copy-out-done add-done element-write-done (λ c. search needs) (λ c. search needs) (λ c. search needs) (λ c. search needs)
+    loop-again (λ c. search needs) (λ c. search needs) scan-again returns returns-2)

@@ -44,8 +44,6 @@ returns-2 : tie.Need-returns-2 Inv-loop μ-loop
 returns-2 c = rows-told _ _ _ _ (c .before .loop .inv .0) (c .loop-test .left) (c .before .loop .inv .1)
 
 pub scan-jobs-spec : {M : Type 1} → statement M
-scan-jobs-spec =
-    tie.close
-    (tie.spec
-    Inv-loop μ-loop loop-holds (λ c. search needs) (λ c κs. search needs) div-jobs faulty-job-requires
-    (λ c. search needs) counted-kind-requires returns (λ c. search needs) (λ c. search needs) loop-again returns-2)
+scan-jobs-spec = tie.close (tie.spec
+    Inv-loop μ-loop loop-holds (λ c. search needs) (λ c κs. search needs) div-jobs faulty-job-requires (λ c. search needs)
+    counted-kind-requires returns (λ c. search needs) (λ c. search needs) loop-again returns-2)

@@ -37,8 +37,6 @@ returns-2 : tie.Need-returns-2
 returns-2 c = let d = c .before .before .before in next-taken _ _ _ _ _ _ _ _ _ _ _ (d .before .step-refusal .ensures) (omega (arith, d .if1 .left)) (c .before .before .elapsed .ensures) (c .before .missed .ensures) (c .older .ensures)
 
 pub next-of-spec : {M : Type 1} → statement M
-next-of-spec =
-    tie.close
-    (tie.spec
-    (λ c κs. search needs) (λ c κs. search needs) returns (λ c κs. search needs) add-slot rem-slot cast-at mul-at
-    cast-moved (λ c κs. search needs) older-requires returns-2)
+next-of-spec = tie.close (tie.spec
+    (λ c κs. search needs) (λ c κs. search needs) returns (λ c κs. search needs) add-slot rem-slot cast-at mul-at cast-moved
+    (λ c κs. search needs) older-requires returns-2)

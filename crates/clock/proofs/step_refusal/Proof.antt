@@ -48,7 +48,5 @@ returns-9 : tie.Need-returns-9
 returns-9 c = sym (not-refused _ _ _ _ _ _ _ (all-passed (c .before)) (omega arith))
 
 pub step-refusal-spec : {M : Type 1} → statement M
-step-refusal-spec =
-    tie.close
-    (tie.spec
+step-refusal-spec = tie.close (tie.spec
     returns returns-2 returns-3 returns-4 returns-5 returns-6 returns-7 (λ c κs. search needs) returns-8 returns-9)

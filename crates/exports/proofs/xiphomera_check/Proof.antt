@@ -38,9 +38,7 @@ unfolding toldOf checkedAs
 returns-4 c = c .packed3 .ensures ∙ as-told (Refused _) _ _ (c .before .before .verdict3 .given .1) (c .before .before .before .before .check-table .ensures) (c .before .before .before .before .before .list-of .ensures)
 
 pub xiphomera-check-spec : {M : Type 1} → statement M
-xiphomera-check-spec =
-    tie.close
-    (tie.spec
-    (λ c κs. search needs) (λ c κs. search needs) enum-told (λ c. search needs) (λ c. search needs)
-    (λ c κs. search needs) (λ c. search needs) (λ c. search needs) (λ c κs. search needs) (λ c. search needs)
-    (λ c κs. search needs) returns returns-2 returns-3 returns-4)
+xiphomera-check-spec = tie.close (tie.spec
+    (λ c κs. search needs) (λ c κs. search needs) enum-told (λ c. search needs) (λ c. search needs) (λ c κs. search needs)
+    (λ c. search needs) (λ c. search needs) (λ c κs. search needs) (λ c. search needs) (λ c κs. search needs) returns returns-2 returns-3
+    returns-4)

@@ -19,8 +19,6 @@ returns c = let e = for-list _ _ _ _ (c .before .before .before .before .search 
     record { answer = ap (λ x. x .verdict * 2 ^ 32 + x .tries) e; left = ap (λ x. x .buffer) e }
 
 pub xiphomera-search-spec : {M : Type 1} → statement M
-xiphomera-search-spec =
-    tie.close
-    (tie.spec
-    (λ c κs. search needs) (λ c κs. search needs) (λ c. search needs) (λ c. search needs) (λ c. search needs)
-    (λ c. search needs) (λ c. search needs) returns)
+xiphomera-search-spec = tie.close (tie.spec
+    (λ c κs. search needs) (λ c κs. search needs) (λ c. search needs) (λ c. search needs) (λ c. search needs) (λ c. search needs)
+    (λ c. search needs) returns)

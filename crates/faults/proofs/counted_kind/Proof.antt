@@ -9,7 +9,4 @@ returns : tie.Need-returns
 returns c = counted-is _ _ _ _ (c .before .before .counter-of .ensures) (c .job-kind .ensures)
 
 pub counted-kind-spec : {M : Type 1} → statement M
-counted-kind-spec =
-    tie.close
-    (tie.spec
-    (λ c κs. search needs) (λ c. search needs) (λ c. search needs) (λ c κs. search needs) returns)
+counted-kind-spec = tie.close (tie.spec (λ c κs. search needs) (λ c. search needs) (λ c. search needs) (λ c κs. search needs) returns)

@@ -26,8 +26,6 @@ returns-2 : tie.Need-returns-2 Inv-loop μ-loop
 returns-2 c = free-yes _ _ _ _ (λ k l. c .before .loop .inv .1 k (omega arith))
 
 pub free-spec : {M : Type 1} → statement M
-free-spec =
-    tie.close
-    (tie.spec
-    Inv-loop μ-loop (λ c. search needs) (λ c. search needs) (λ c. search needs) (λ c. search needs) returns
-    (λ c. search needs) (λ c. search needs) loop-again returns-2)
+free-spec = tie.close (tie.spec
+    Inv-loop μ-loop (λ c. search needs) (λ c. search needs) (λ c. search needs) (λ c. search needs) returns (λ c. search needs)
+    (λ c. search needs) loop-again returns-2)

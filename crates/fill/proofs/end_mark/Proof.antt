@@ -29,8 +29,6 @@ returns-2 : tie.Need-returns-2 Inv-loop μ-loop
 returns-2 c = none-ends _ _ _ (λ v l. c .before .loop .inv .1 v (omega (arith, c .loop-test .left)))
 
 pub end-mark-spec : {M : Type 1} → statement M
-end-mark-spec =
-    tie.close
-    (tie.spec
-    Inv-loop μ-loop loop-holds (λ c. search needs) (λ c. search needs) (λ c. search needs) (λ c. search needs) (λ c. search needs)
-    returns (λ c. search needs) (λ c. search needs) loop-again (λ c. search needs) returns-2)
+end-mark-spec = tie.close (tie.spec
+    Inv-loop μ-loop loop-holds (λ c. search needs) (λ c. search needs) (λ c. search needs) (λ c. search needs) (λ c. search needs) returns
+    (λ c. search needs) (λ c. search needs) loop-again (λ c. search needs) returns-2)

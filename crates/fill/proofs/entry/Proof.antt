@@ -37,8 +37,6 @@ returns-3 : tie.Need-returns-3
 returns-3 c = entry-closed _ _ _ _ _ (c .before .before .open-in .ensures) (c .enum-told .given .1)
 
 pub entry-spec : {M : Type 1} → statement M
-entry-spec =
-    tie.close
-    (tie.spec
-    (λ c κs. search needs) (λ c. search needs) last-slot-requires mul-counter add-counter mul-result add-result
-    mul-result-2 enum-told returns returns-2 returns-3)
+entry-spec = tie.close (tie.spec
+    (λ c κs. search needs) (λ c. search needs) last-slot-requires mul-counter add-counter mul-result add-result mul-result-2 enum-told
+    returns returns-2 returns-3)

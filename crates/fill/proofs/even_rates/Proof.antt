@@ -32,8 +32,5 @@ unfolding rowEven
 returns-2 c = none-fails 16 (pairEven _ _) _ (c .loop-test .left) (c .before .loop .inv .1)
 
 pub even-rates-spec : {M : Type 1} → statement M
-even-rates-spec =
-    tie.close
-    (tie.spec
-    Inv-loop μ-loop loop-holds (λ c κs. search needs) returns (λ c. search needs) (λ c. search needs) loop-again
-    returns-2)
+even-rates-spec = tie.close (tie.spec
+    Inv-loop μ-loop loop-holds (λ c κs. search needs) returns (λ c. search needs) (λ c. search needs) loop-again returns-2)

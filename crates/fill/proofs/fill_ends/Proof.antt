@@ -30,8 +30,6 @@ returns : tie.Need-returns Inv-loop μ-loop
 returns c = all-stored _ _ _ _ _ _ (c .before .loop .inv .0) (c .loop-test .left) (c .before .loop .inv .1)
 
 pub fill-ends-spec : {M : Type 1} → statement M
-fill-ends-spec =
-    tie.close
-    (tie.spec
-    Inv-loop μ-loop loop-holds (λ c κs. search needs) (λ c. search needs) (λ c. search needs) (λ c. search needs)
-    (λ c. search needs) (λ c. search needs) loop-again returns)
+fill-ends-spec = tie.close (tie.spec
+    Inv-loop μ-loop loop-holds (λ c κs. search needs) (λ c. search needs) (λ c. search needs) (λ c. search needs) (λ c. search needs)
+    (λ c. search needs) loop-again returns)

@@ -15,7 +15,5 @@ returns-2 : tie.Need-returns-2
 returns-2 c = grid-none _ _ _ (c .if1 .left)
 
 pub grid-entry-spec : {M : Type 1} → statement M
-grid-entry-spec =
-    tie.close
-    (tie.spec
+grid-entry-spec = tie.close (tie.spec
     (λ c. search needs) (λ c κs. search needs) (λ c. search needs) (λ c. search needs) entry-requires returns returns-2)

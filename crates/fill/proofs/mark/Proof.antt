@@ -21,8 +21,6 @@ returns-4 : tie.Need-returns-4
 returns-4 c = c .fit-mark .ensures ∙ sym (at-fit _ _ _ _ _ _ (omega arith))
 
 pub mark-spec : {M : Type 1} → statement M
-mark-spec =
-    tie.close
-    (tie.spec
-    (λ c. search needs) (λ c κs. search needs) returns (λ c κs. search needs) (λ c κs. search needs) returns-2
-    (λ c κs. search needs) returns-3 (λ c κs. search needs) returns-4)
+mark-spec = tie.close (tie.spec
+    (λ c. search needs) (λ c κs. search needs) returns (λ c κs. search needs) (λ c κs. search needs) returns-2 (λ c κs. search needs)
+    returns-3 (λ c κs. search needs) returns-4)

@@ -14,7 +14,4 @@ returns-2 : tie.Need-returns-2
 returns-2 c = c .twin-cores .ensures ∙ sym (test-twin _ _ _ (omega arith))
 
 pub rule-test-spec : {M : Type 1} → statement M
-rule-test-spec =
-    tie.close
-    (tie.spec
-    (λ c. search needs) (λ c κs. search needs) (λ c κs. search needs) returns returns-2)
+rule-test-spec = tie.close (tie.spec (λ c. search needs) (λ c κs. search needs) (λ c κs. search needs) returns returns-2)

@@ -34,8 +34,6 @@ unfolding coresTwin
 returns-2 c = none-fails _ _ _ (c .loop-test .left) (c .before .loop .inv .1)
 
 pub twin-cores-spec : {M : Type 1} → statement M
-twin-cores-spec =
-    tie.close
-    (tie.spec
-    Inv-loop μ-loop loop-holds (λ c. search needs) (λ c. search needs) (λ c. search needs) (λ c. search needs)
-    (λ c. search needs) (λ c. search needs) returns (λ c. search needs) (λ c. search needs) loop-again returns-2)
+twin-cores-spec = tie.close (tie.spec
+    Inv-loop μ-loop loop-holds (λ c. search needs) (λ c. search needs) (λ c. search needs) (λ c. search needs) (λ c. search needs)
+    (λ c. search needs) returns (λ c. search needs) (λ c. search needs) loop-again returns-2)

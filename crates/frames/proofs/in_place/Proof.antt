@@ -16,7 +16,4 @@ unfolding inPlace
 returns-2 c = rw (sym (c .before .before .may-follow .ensures) ∙ not-false _ (c .before .if1 .left)) (c .right-number .ensures)
 
 pub in-place-spec : {M : Type 1} → statement M
-in-place-spec =
-    tie.close
-    (tie.spec
-    (λ c. search needs) (λ c κs. search needs) returns (λ c. search needs) (λ c κs. search needs) returns-2)
+in-place-spec = tie.close (tie.spec (λ c. search needs) (λ c κs. search needs) returns (λ c. search needs) (λ c κs. search needs) returns-2)

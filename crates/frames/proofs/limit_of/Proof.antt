@@ -10,8 +10,5 @@ unfolding four
 returns c = rw (c .before .number-at .ensures, c .number-at2 .ensures)
 
 pub limit-of-spec : {M : Type 1} → statement M
-limit-of-spec =
-    tie.close
-    (tie.spec
-    (λ c κs. search needs) (λ c. search needs) (λ c. search needs) (λ c κs. search needs) (λ c. search needs)
-    (λ c. search needs) returns)
+limit-of-spec = tie.close (tie.spec
+    (λ c κs. search needs) (λ c. search needs) (λ c. search needs) (λ c κs. search needs) (λ c. search needs) (λ c. search needs) returns)

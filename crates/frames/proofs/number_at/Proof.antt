@@ -10,5 +10,4 @@ unfolding two
 returns c = c .two-bytes .ensures
 
 pub number-at-spec : {M : Type 1} → statement M
-number-at-spec =
-    tie.close (tie.spec (λ c. search needs) (λ c. search needs) (λ c. search needs) (λ c κs. search needs) returns)
+number-at-spec = tie.close (tie.spec (λ c. search needs) (λ c. search needs) (λ c. search needs) (λ c κs. search needs) returns)

@@ -60,10 +60,7 @@ returns-4 : tie.Need-returns-4 Inv-loop μ-loop
 returns-4 c = read-all _ _ _ _ (c .before .before .loop .inv) (c .before .loop-test .left) (omega (arith, c .if3 .left))
 
 pub read-lines-spec : {M : Type 1} → statement M
-read-lines-spec =
-    tie.close
-    (tie.spec
-    Inv-loop μ-loop (λ c κs. search needs) loop-holds (λ c κs. search needs) (λ c κs. search needs)
-    (λ c κs. search needs) returns frame-at-requires (λ c. search needs) (λ c κs. search needs) (λ c κs. search needs)
-    returns-2 take-frame-requires (λ c. search needs) (λ c. search needs) loop-again (λ c. search needs)
-    (λ c κs. search needs) returns-3 returns-4)
+read-lines-spec = tie.close (tie.spec
+    Inv-loop μ-loop (λ c κs. search needs) loop-holds (λ c κs. search needs) (λ c κs. search needs) (λ c κs. search needs) returns
+    frame-at-requires (λ c. search needs) (λ c κs. search needs) (λ c κs. search needs) returns-2 take-frame-requires (λ c. search needs)
+    (λ c. search needs) loop-again (λ c. search needs) (λ c κs. search needs) returns-3 returns-4)

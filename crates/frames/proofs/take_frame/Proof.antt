@@ -25,8 +25,6 @@ returns-4 : tie.Need-returns-4
 returns-4 c = λ s e q f g. nothing-said s _ _ f e g (c .match .rest .0 .0 .1) (c .match .rest .0 .1) (c .match .rest .1)
 
 pub take-frame-spec : {M : Type 1} → statement M
-take-frame-spec =
-    tie.close
-    (tie.spec
-    (λ c. search needs) (λ c. search needs) (λ c κs. search needs) add-task-requires (λ c. search needs)
-    (λ c κs. search needs) returns returns-2 returns-3 returns-4)
+take-frame-spec = tie.close (tie.spec
+    (λ c. search needs) (λ c. search needs) (λ c κs. search needs) add-task-requires (λ c. search needs) (λ c κs. search needs) returns
+    returns-2 returns-3 returns-4)

@@ -10,8 +10,6 @@ unfolding taskOf
 returns c = rw (c .before .before .before .number-at .ensures, c .before .before .number-at2 .ensures, c .before .number-at3 .ensures, c .number-at4 .ensures)
 
 pub task-of-spec : {M : Type 1} → statement M
-task-of-spec =
-    tie.close
-    (tie.spec
-    (λ c κs. search needs) (λ c κs. search needs) (λ c κs. search needs) (λ c κs. search needs) (λ c. search needs)
-    (λ c. search needs) (λ c. search needs) (λ c. search needs) returns)
+task-of-spec = tie.close (tie.spec
+    (λ c κs. search needs) (λ c κs. search needs) (λ c κs. search needs) (λ c κs. search needs) (λ c. search needs) (λ c. search needs)
+    (λ c. search needs) (λ c. search needs) returns)

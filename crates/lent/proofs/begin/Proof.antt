@@ -23,8 +23,6 @@ returns-5 : tie.Need-returns-5
 returns-5 c = let i = c .before in c .refused5 .ensures ∙ ap refusedBy (in-count _ _ (i .before .before .before .if1 .left) (i .before .before .if2 .left) (i .before .if3 .left) (i .if4 .left))
 
 pub begin-spec : {M : Type 1} → statement M
-begin-spec =
-    tie.close
-    (tie.spec
+begin-spec = tie.close (tie.spec
     (λ c κs. search needs) returns (λ c. search needs) (λ c κs. search needs) returns-2 (λ c κs. search needs) returns-3
     (λ c κs. search needs) returns-4 (λ c κs. search needs) returns-5)

@@ -14,7 +14,4 @@ returns-2 : tie.Need-returns-2
 returns-2 c = taken-added _ _ _ _ _ (c .before .before .before .task-refusal .ensures) (omega (arith, c .before .before .if1 .left)) (c .add-task .ensures)
 
 pub take-task-spec : {M : Type 1} → statement M
-take-task-spec =
-    tie.close
-    (tie.spec
-    (λ c κs. search needs) (λ c κs. search needs) returns (λ c κs. search needs) returns-2)
+take-task-spec = tie.close (tie.spec (λ c κs. search needs) (λ c κs. search needs) returns (λ c κs. search needs) returns-2)

@@ -46,8 +46,6 @@ returns-3 c =
     sym (pairs-all (a .args .text .now) (a .args .from) (a .args .to) (a .pre .1) (c .before .before .if1 .left) (λ k l h. i .inv .2 k l (omega arith)))
 
 pub are-pairs-spec : {M : Type 1} → statement M
-are-pairs-spec =
-    tie.close
-    (tie.spec
-    Inv-loop μ-loop (λ c. search needs) returns loop-holds (λ c. search needs) (λ c κs. search needs) returns-2
-    (λ c. search needs) (λ c. search needs) loop-again returns-3)
+are-pairs-spec = tie.close (tie.spec
+    Inv-loop μ-loop (λ c. search needs) returns loop-holds (λ c. search needs) (λ c κs. search needs) returns-2 (λ c. search needs)
+    (λ c. search needs) loop-again returns-3)

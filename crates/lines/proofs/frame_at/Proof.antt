@@ -40,8 +40,6 @@ returns c =
     (omega (arith, bytes-length part, length-slice (a .args .from) (a .args .to) (a .args .text .now) (a .pre .1))) (c .before .loop .inv .1)
 
 pub frame-at-spec : {M : Type 1} → statement M
-frame-at-spec =
-    tie.close
-    (tie.spec
-    Inv-loop μ-loop (λ c. search needs) loop-holds (λ c. search needs) (λ c. search needs) (λ c κs. search needs)
-    (λ c. search needs) (λ c. search needs) (λ c. search needs) loop-again returns)
+frame-at-spec = tie.close (tie.spec
+    Inv-loop μ-loop (λ c. search needs) loop-holds (λ c. search needs) (λ c. search needs) (λ c κs. search needs) (λ c. search needs)
+    (λ c. search needs) (λ c. search needs) loop-again returns)

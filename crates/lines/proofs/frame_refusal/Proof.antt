@@ -42,8 +42,6 @@ unfolding frameRefusal unless
 returns-3 c = rw (known (c .before)) (c .length-refusal2 .ensures)
 
 pub frame-refusal-spec : {M : Type 1} → statement M
-frame-refusal-spec =
-    tie.close
-    (tie.spec
-    (λ c κs. search needs) enum-told (λ c. search needs) length-refusal-requires (λ c. search needs)
-    length-refusal-requires-2 returns returns-2 returns-3)
+frame-refusal-spec = tie.close (tie.spec
+    (λ c κs. search needs) enum-told (λ c. search needs) length-refusal-requires (λ c. search needs) length-refusal-requires-2 returns
+    returns-2 returns-3)

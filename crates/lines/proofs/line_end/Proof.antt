@@ -36,7 +36,5 @@ returns-2 c =
     record { behind = i .inv .0; within = i .inv .1; none-before = i .inv .2; feed = λ l. absurd (omega arith) }
 
 pub line-end-spec : {M : Type 1} → statement M
-line-end-spec =
-    tie.close
-    (tie.spec
+line-end-spec = tie.close (tie.spec
     Inv-loop μ-loop loop-holds (λ c. search needs) returns (λ c. search needs) (λ c. search needs) loop-again returns-2)

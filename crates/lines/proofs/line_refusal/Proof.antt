@@ -31,8 +31,6 @@ returns-4 c =
     (sym (c .before .before .before .are-pairs .ensures) ∙ not-false _ (c .before .before .if3 .left)) (c .before .byte-at .ensures)
 
 pub line-refusal-spec : {M : Type 1} → statement M
-line-refusal-spec =
-    tie.close
-    (tie.spec
-    returns (λ c. search needs) returns-2 (λ c κs. search needs) returns-3 (λ c κs. search needs) (λ c. search needs)
-    (λ c κs. search needs) returns-4)
+line-refusal-spec = tie.close (tie.spec
+    returns (λ c. search needs) returns-2 (λ c κs. search needs) returns-3 (λ c κs. search needs) (λ c. search needs) (λ c κs. search needs)
+    returns-4)

@@ -11,8 +11,5 @@ unfolding digits
 returns c = rw (c .before .hex .ensures, c .hex2 .ensures, add-one)
 
 pub put-byte-spec : {M : Type 1} → statement M
-put-byte-spec =
-    tie.close
-    (tie.spec
-    (λ c κs. search needs) (λ c. search needs) (λ c κs. search needs) (λ c. search needs) (λ c. search needs)
-    (λ c. search needs) returns)
+put-byte-spec = tie.close (tie.spec
+    (λ c κs. search needs) (λ c. search needs) (λ c κs. search needs) (λ c. search needs) (λ c. search needs) (λ c. search needs) returns)

@@ -49,9 +49,6 @@ returns c =
     )
 
 pub put-frame-spec : {M : Type 1} → statement M
-put-frame-spec =
-    tie.close
-    (tie.spec
-    Inv-loop μ-loop (λ c. search needs) (λ c κs. search needs) loop-holds (λ c. search needs) put-byte-requires
-    (λ c. search needs) (λ c. search needs) (λ c. search needs) loop-again slice-write-out (λ c. search needs)
-    same-length returns)
+put-frame-spec = tie.close (tie.spec
+    Inv-loop μ-loop (λ c. search needs) (λ c κs. search needs) loop-holds (λ c. search needs) put-byte-requires (λ c. search needs)
+    (λ c. search needs) (λ c. search needs) loop-again slice-write-out (λ c. search needs) same-length returns)

@@ -15,8 +15,6 @@ slice-aggregate-write-all c =
     let p = c .before .before .plan-text in sym (length-take-le (p .result) (p .last .1 .0) (within-out (p .ensures) (p .kept .1 .0)))
 
 pub main-spec : {M : Type 1} → statement M
-main-spec =
-    tie.close
-    (tie.spec
-    (λ c. search needs) (λ c κs. search needs) (λ c. search needs) (λ c. search needs) (λ c. search needs)
-    (λ c κs. search needs) array-share-prefix-out slice-aggregate-write-all (λ c κs. search needs) (λ c. search needs))
+main-spec = tie.close (tie.spec
+    (λ c. search needs) (λ c κs. search needs) (λ c. search needs) (λ c. search needs) (λ c. search needs) (λ c κs. search needs)
+    array-share-prefix-out slice-aggregate-write-all (λ c κs. search needs) (λ c. search needs))

@@ -22,7 +22,4 @@ returns-3 : tie.Need-returns-3
 returns-3 c = let d = c .before .before in absurd (not-told _ _ _ _ (d .before .before .before .pre) (omega (arith, d .before .if1 .left)) _ (d .test-list .ensures) _ (c .enum-told .given .1))
 
 pub begin-spec : {M : Type 1} → statement M
-begin-spec =
-    tie.close
-    (tie.spec
-    returns (λ c κs. search needs) (λ c. search needs) record-of-requires enum-told returns-2 returns-3)
+begin-spec = tie.close (tie.spec returns (λ c κs. search needs) (λ c. search needs) record-of-requires enum-told returns-2 returns-3)

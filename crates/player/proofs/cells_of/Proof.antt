@@ -15,8 +15,7 @@ abbrev μ-loop : tie.MeasureT-loop
 μ-loop table count cells₀ c₀ cells c = count - c
 
 pub cells-of-spec : {M : Type 1} → statement M
-cells-of-spec =
-    tie.close
-    (tie.spec
-    Inv-loop μ-loop (λ c κs. search needs) (λ c. filling-none (c .no-cells .ensures)) (λ c. search needs) (λ c. search needs) (λ c. search needs)
-    (λ c. search needs) (λ c. filling-more (c .before .before .loop .inv) (omega arith) (omega arith)) (λ c. filling-all (c .before .loop .inv) (omega arith)))
+cells-of-spec = tie.close (tie.spec
+    Inv-loop μ-loop (λ c κs. search needs) (λ c. filling-none (c .no-cells .ensures)) (λ c. search needs) (λ c. search needs)
+    (λ c. search needs) (λ c. search needs) (λ c. filling-more (c .before .before .loop .inv) (omega arith) (omega arith))
+    (λ c. filling-all (c .before .loop .inv) (omega arith)))

@@ -9,8 +9,5 @@ returns : tie.Need-returns
 returns c = first-is _ _ _ _ (c .before .before .before .before .pre) (c .before .stays .ensures) (c .answer .ensures)
 
 pub first-shown-spec : {M : Type 1} → statement M
-first-shown-spec =
-    tie.close
-    (tie.spec
-    (λ c κs. search needs) (λ c. search needs) (λ c. search needs) (λ c. search needs) (λ c. search needs)
-    (λ c κs. search needs) returns)
+first-shown-spec = tie.close (tie.spec
+    (λ c κs. search needs) (λ c. search needs) (λ c. search needs) (λ c. search needs) (λ c. search needs) (λ c κs. search needs) returns)

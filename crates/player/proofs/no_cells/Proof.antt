@@ -1,3 +1,5 @@
+-- `player::no_cells` meets its contract.
+-- Assumes nothing.
 use borrow.Author.Needs.{needs}
 use Rattle.player.proofs.no_cells.Statement.{statement}
 use Rattle.player.proofs.no_cells.Tie as tie

@@ -16,8 +16,7 @@ abbrev μ-loop : tie.MeasureT-loop
 μ-loop list n offsets₀ k₀ offsets k = n - k
 
 pub offsets-of-spec : {M : Type 1} → statement M
-offsets-of-spec =
-    tie.close
-    (tie.spec
+offsets-of-spec = tie.close (tie.spec
     Inv-loop μ-loop (λ c. search needs) (λ c. filling-none refl) (λ c. search needs) (λ c. search needs) (λ c. search needs)
-    (λ c. search needs) (λ c. search needs) (λ c. search needs) (λ c. filling-more (c .before .before .loop .inv) (omega arith) (omega arith)) (λ c. filling-all (c .before .loop .inv) (omega arith)))
+    (λ c. search needs) (λ c. search needs) (λ c. search needs)
+    (λ c. filling-more (c .before .before .loop .inv) (omega arith) (omega arith)) (λ c. filling-all (c .before .loop .inv) (omega arith)))

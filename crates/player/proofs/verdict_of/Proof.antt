@@ -21,8 +21,5 @@ returns-4 : tie.Need-returns-4
 returns-4 c = told-refused _ _ _ _ (c .before .before .before .check-table .ensures) (c .before .told .given .1)
 
 pub verdict-of-spec : {M : Type 1} → statement M
-verdict-of-spec =
-    tie.close
-    (tie.spec
-    (λ c κs. search needs) enum-told (λ c. search needs) (λ c. search needs) (λ c. search needs) returns returns-2
-    returns-3 returns-4)
+verdict-of-spec = tie.close (tie.spec
+    (λ c κs. search needs) enum-told (λ c. search needs) (λ c. search needs) (λ c. search needs) returns returns-2 returns-3 returns-4)

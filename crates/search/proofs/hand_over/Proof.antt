@@ -28,8 +28,6 @@ returns : tie.Need-returns Inv-loop μ-loop
 returns c = all-stored _ _ _ _ _ _ (omega arith) (omega arith) (c .before .loop .inv .2)
 
 pub hand-over-spec : {M : Type 1} → statement M
-hand-over-spec =
-    tie.close
-    (tie.spec
-    Inv-loop μ-loop loop-holds (λ c κs. search needs) (λ c. search needs) (λ c. search needs) (λ c. search needs)
-    loop-again (λ c. search needs) returns)
+hand-over-spec = tie.close (tie.spec
+    Inv-loop μ-loop loop-holds (λ c κs. search needs) (λ c. search needs) (λ c. search needs) (λ c. search needs) loop-again
+    (λ c. search needs) returns)

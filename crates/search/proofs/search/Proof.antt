@@ -24,9 +24,6 @@ returns-3 : tie.Need-returns-3
 returns-3 c = call-refused _ _ _ _ _ _ _ (c .before .before .before .before .before .before .before .test-list .ensures) (c .before .before .before .before .before .soundness2 .given .1) _ (c .before .before .call-refusal .ensures) _ (c .before .if1 .left) (c .refused2 .ensures)
 
 pub search-spec : {M : Type 1} → statement M
-search-spec =
-    tie.close
-    (tie.spec
-    (λ c κs. search needs) (λ c. search needs) (λ c κs. search needs) (λ c. search needs) (λ c. search needs)
-    mul-call-refusal (λ c κs. search needs) walk-list-requires (λ c κs. search needs) returns (λ c. search needs)
-    returns-2 returns-3)
+search-spec = tie.close (tie.spec
+    (λ c κs. search needs) (λ c. search needs) (λ c κs. search needs) (λ c. search needs) (λ c. search needs) mul-call-refusal
+    (λ c κs. search needs) walk-list-requires (λ c κs. search needs) returns (λ c. search needs) returns-2 returns-3)

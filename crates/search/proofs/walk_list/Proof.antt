@@ -25,8 +25,6 @@ returns c =
     _ (start .pre .2) _ (c .before .before .before .before .before .before .before .told .ensures) _ (c .before .before .hand-over .ensures)
 
 pub walk-list-spec : {M : Type 1} → statement M
-walk-list-spec =
-    tie.close
-    (tie.spec
-    (λ c. search needs) (λ c κs. search needs) told-requires (λ c. search needs) (λ c. search needs) hand-over-requires
-    (λ c. search needs) returns)
+walk-list-spec = tie.close (tie.spec
+    (λ c. search needs) (λ c κs. search needs) told-requires (λ c. search needs) (λ c. search needs) hand-over-requires (λ c. search needs)
+    returns)

@@ -35,8 +35,5 @@ returns-2 : tie.Need-returns-2 Inv-loop μ-loop
 returns-2 c = rates-under _ _ (λ j l. c .before .loop .inv .1 j (omega arith))
 
 pub rates-fit-spec : {M : Type 1} → statement M
-rates-fit-spec =
-    tie.close
-    (tie.spec
-    Inv-loop μ-loop loop-holds (λ c. search needs) (λ c. search needs) returns (λ c. search needs) (λ c. search needs)
-    loop-again returns-2)
+rates-fit-spec = tie.close (tie.spec
+    Inv-loop μ-loop loop-holds (λ c. search needs) (λ c. search needs) returns (λ c. search needs) (λ c. search needs) loop-again returns-2)

@@ -39,9 +39,6 @@ returns-2 : tie.Need-returns-2 Inv-loop μ-loop
 returns-2 c = length-done _ _ _ (omega arith) (omega arith) (c .before .loop .inv .1) (c .before .loop .inv .2)
 
 pub table-length-spec : {M : Type 1} → statement M
-table-length-spec =
-    tie.close
-    (tie.spec
-    Inv-loop μ-loop (λ c. search needs) loop-holds (λ c. search needs) (λ c. search needs) (λ c. search needs)
-    (λ c. search needs) (λ c κs. search needs) (λ c. search needs) returns (λ c. search needs) (λ c. search needs)
-    (λ c. search needs) loop-again returns-2)
+table-length-spec = tie.close (tie.spec
+    Inv-loop μ-loop (λ c. search needs) loop-holds (λ c. search needs) (λ c. search needs) (λ c. search needs) (λ c. search needs)
+    (λ c κs. search needs) (λ c. search needs) returns (λ c. search needs) (λ c. search needs) (λ c. search needs) loop-again returns-2)

@@ -60,8 +60,6 @@ returns-5 c =
     (only-length (c .before .before) 8 (length-refused _ _ (c .before .before .table-length .ensures) (c .enum-told .given .1)))
 
 pub test-list-spec : {M : Type 1} → statement M
-test-list-spec =
-    tie.close
-    (tie.spec
-    (λ c. search needs) (λ c. search needs) (λ c κs. search needs) returns (λ c. search needs) (λ c κs. search needs)
-    returns-2 list-refusal-requires returns-3 table-length-requires (λ c. search needs) enum-told returns-4 returns-5)
+test-list-spec = tie.close (tie.spec
+    (λ c. search needs) (λ c. search needs) (λ c κs. search needs) returns (λ c. search needs) (λ c κs. search needs) returns-2
+    list-refusal-requires returns-3 table-length-requires (λ c. search needs) enum-told returns-4 returns-5)

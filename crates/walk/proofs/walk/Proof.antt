@@ -1,3 +1,5 @@
+-- `walk::walk` meets its contract: it begins at the first cell, with the sets of the first slot.
+-- Assumes nothing.
 use borrow.Author.Needs.{needs}
 use Rattle.walk.proofs.TurnLaws.{stands-start, ran-same}
 use Rattle.walk.proofs.walk.Statement.{statement}

@@ -29,7 +29,4 @@ returns-2 : tie.Need-returns-2
 returns-2 c = let pre = c .before .before .before .before .before .before .pre in last-round (pre .2) _ _ (pre .3) (c .if1 .left)
 
 pub last-slot-spec : {M : Type 1} → statement M
-last-slot-spec =
-    tie.close
-    (tie.spec
-    mul-first add-first rem-first (λ c. search needs) add-last sub-end returns returns-2)
+last-slot-spec = tie.close (tie.spec mul-first add-first rem-first (λ c. search needs) add-last sub-end returns returns-2)
