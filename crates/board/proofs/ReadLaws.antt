@@ -6,11 +6,10 @@ use native.Mathlib.Numerals.{add-one}
 use native.Mathlib.Nat.{add-zero, mod-lt, lt-of-lt-of-le, pow-le-pow-right}
 use mathlib.Core.Path.{_≡_, refl, sym, ap, ap₂, _∙_}
 use mathlib.Core.Logic.{_≢_}
-use mathlib.Core.Bool.{Bool, true, false, not}
+use mathlib.Core.Bool.{Bool, true, false}
 use mathlib.Core.List.{List}
 use lib.Dec.{leb, eqb}
 use borrow.Author.Tests.{leb-true, le-leb, eq-eqb, ne-eqb}
-use lib.ListN.{set}
 use Rattle.laws.specs.Lists.{nth}
 use Rattle.laws.specs.Sum.{gate}
 use Rattle.laws.specs.Order.{rankOf}

@@ -3,7 +3,7 @@
 use Prim.Native.Nat.{ℕ, zero, suc, _+_, _*_, _-_, _/_, _%_, _≤_, _<_}
 use mathlib.Core.Path.{_≡_, refl, sym, ap, _∙_}
 use mathlib.Core.Logic.{_≢_}
-use mathlib.Core.Bool.{Bool, true, false, not, _&&_}
+use mathlib.Core.Bool.{Bool, true, false, _&&_}
 use mathlib.Core.List.{List}
 use native.Mathlib.Omega.{arith}
 use native.Mathlib.Nat.{zero-add, mul-le-mul-left}
@@ -13,7 +13,7 @@ use borrow.Author.Tests.{lt-ltb, le-ltb, eq-eqb, ne-eqb}
 use Rattle.laws.specs.Sum.{gate}
 use Rattle.laws.specs.Tests.{all}
 use Rattle.laws.specs.Lists.{nth, filled}
-use Rattle.laws.proofs.TestLaws.{all-false, all-true, all-same}
+use Rattle.laws.proofs.TestLaws.{all-false, all-true}
 use Rattle.laws.proofs.ListLaws.{seek-is, seek-none, seek-same, filled-before, filled-next}
 use Rattle.tasks.specs.declared.Task.{Task}
 use Rattle.tasks.specs.declared.TaskList.{TaskList}

@@ -7,7 +7,7 @@ use mathlib.Core.Bool.{Bool, true, false}
 use native.Mathlib.Omega.{arith}
 use native.Mathlib.Decide.{ℕ-discrete, decLt}
 use native.Mathlib.Nat.{add-zero, zero-add, add-suc, add-sub-of-le, le-antisymm, le-refl, le-of-suc-le-suc, mod-eq-of-lt, add-mod-right, suc-mul, zero-mul}
-use lib.Dec.{T, leb, ltb, eqb, le→leb, lt→ltb, eqb-refl, eqb→eq, leb→le, ltb→lt}
+use lib.Dec.{T, ltb, eqb, lt→ltb, eqb-refl, eqb→eq, ltb→lt}
 use lib.Arith.{digits-div, digits-mod}
 use Rattle.laws.specs.Sum.{gate, sum}
 
@@ -24,30 +24,18 @@ unfolding gate
 gate-no true x h = absurd (h tt)
 gate-no false x h = refl
 
--- the tests <, ≤ and = as they pass and as they fail
+-- the tests < and = as they pass and as they fail
 pub gate-lt : (a b x : ℕ) → a < b → gate (ltb a b) x ≡ x
 gate-lt a b x h = gate-yes (ltb a b) x (lt→ltb a b h)
 
 pub gate-ge : (a b x : ℕ) → b ≤ a → gate (ltb a b) x ≡ 0
 gate-ge a b x h = gate-no (ltb a b) x (λ t. let l : a < b = ltb→lt a b t in omega arith)
 
-pub gate-le : (a b x : ℕ) → a ≤ b → gate (leb a b) x ≡ x
-gate-le a b x h = gate-yes (leb a b) x (le→leb a b h)
-
-pub gate-gt : (a b x : ℕ) → b < a → gate (leb a b) x ≡ 0
-gate-gt a b x h = gate-no (leb a b) x (λ t. let l : a ≤ b = leb→le a b t in omega arith)
-
 pub gate-eq : (a b x : ℕ) → a ≡ b → gate (eqb a b) x ≡ x
 gate-eq a b x h = rw h (gate-yes (eqb b b) x (eqb-refl b))
 
 pub gate-ne : (a b x : ℕ) → a ≢ b → gate (eqb a b) x ≡ 0
 gate-ne a b x h = gate-no (eqb a b) x (λ t. h (eqb→eq a b t))
-
--- a term that is 0 where the test passes is 0
-pub gate-if : (b : Bool) (x : ℕ) → (T b → x ≡ 0) → gate b x ≡ 0
-unfolding gate
-gate-if true x h = h tt
-gate-if false x h = refl
 
 -- a gate of 0 is 0
 pub gate-zero : (b : Bool) → gate b 0 ≡ 0
@@ -112,10 +100,6 @@ unfolding sum
 sum-term zero f c h = omega arith
 sum-term (suc n) f c h =
     ⊎-elim (λ l. omega (arith, sum-term n f c l)) (λ l. omega (arith, ap f (le-antisymm l (le-of-suc-le-suc h)))) (lt-or-ge c n)
-
--- a sum of 0 has terms of 0 only
-pub sum-zero-terms : (n : ℕ) (f : ℕ → ℕ) → sum n f ≡ 0 → (c : ℕ) → c < n → f c ≡ 0
-sum-zero-terms n f h c l = omega (arith, sum-term n f c l)
 
 -- terms of 0 from n on add nothing
 pub sum-stays : (n N : ℕ) (f : ℕ → ℕ) → n ≤ N → ((c : ℕ) → n ≤ c → c < N → f c ≡ 0) → sum N f ≡ sum n f

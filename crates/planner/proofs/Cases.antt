@@ -1,6 +1,6 @@
 -- 01's small tables worked by hand, P1 to P12, and its worked example: what the definitions answer, and what 01 says.
 -- Assumes nothing.
-use Prim.Native.Nat.{ℕ, zero, suc}
+use Prim.Native.Nat.{ℕ}
 use mathlib.Core.Path.{_≡_, refl}
 use mathlib.Core.List.{List, [], _∷_, map}
 use lib.ListN.{replicate}
@@ -12,7 +12,7 @@ use Rattle.tasks.specs.Refusal.{within, unless, orNext, ratesFit, taskRefusal, 
 use Rattle.tasks.specs.Window.{place, highest}
 use Rattle.tasks.specs.Instance.{instanceOf}
 use Rattle.table.specs.Table.{share, done, free}
-use Rattle.table.specs.Fault.{kindOf, cellKind, workKind, firstJob, fault, Checked, refused, checked, inCell, inJob, check}
+use Rattle.table.specs.Fault.{kindOf, cellKind, workKind, firstJob, fault, Checked, checked, inCell, inJob, check}
 use Rattle.rules.specs.Walk.{walk}
 use Rattle.rules.specs.Rules.{tests, permitted, settled, closed, evenRates, twin, idleTried, ruleA, ruleB, quickly}
 use Rattle.rules.specs.Search.{Searched, told, searchRefusal, search}

@@ -22,33 +22,24 @@ use Rattle.tasks.proofs.task_refusal as task-refusal
 use Rattle.tasks.proofs.test_list as test-list
 
 -- ---- work_in
-abbrev pub WorkIn : ℕ → Slots → Work → Type 0
-WorkIn rate slots r = r ≡ workIn rate slots
-
-work-in-says : (κs rate slots rate′ slots′ r : _) → Says (λ M 𝓤 H A mem run. work-in.ensures-1 𝓤 H κs A mem run rate slots rate′ slots′ r) (WorkIn rate slots r)
+work-in-says : (κs rate slots rate′ slots′ r : _) → Says (λ M 𝓤 H A mem run. work-in.ensures-1 𝓤 H κs A mem run rate slots rate′ slots′ r) (r ≡ workIn rate slots)
 work-in-says κs rate slots rate′ slots′ r M 𝓤 H A mem run = refl
 
-pub work-in-only : (rate : ℕ) (slots : Slots) (r r′ : Work) → WorkIn rate slots r → WorkIn rate slots r′ → r ≡ r′
+pub work-in-only : (rate : ℕ) (slots : Slots) (r r′ : Work) → r ≡ workIn rate slots → r′ ≡ workIn rate slots → r ≡ r′
 work-in-only rate slots r r′ = only
 
 -- ---- task_at
-abbrev pub TaskAt : TaskList → ℕ → Task → Type 0
-TaskAt list i r = r ≡ taskAt list i
-
-task-at-says : (κs list i list′ i′ r : _) → Says (λ M 𝓤 H A mem run. task-at.ensures-1 𝓤 H κs A mem run list i list′ i′ r) (TaskAt list i r)
+task-at-says : (κs list i list′ i′ r : _) → Says (λ M 𝓤 H A mem run. task-at.ensures-1 𝓤 H κs A mem run list i list′ i′ r) (r ≡ taskAt list i)
 task-at-says κs list i list′ i′ r M 𝓤 H A mem run = refl
 
-pub task-at-only : (list : TaskList) (i : ℕ) (r r′ : Task) → TaskAt list i r → TaskAt list i r′ → r ≡ r′
+pub task-at-only : (list : TaskList) (i : ℕ) (r r′ : Task) → r ≡ taskAt list i → r′ ≡ taskAt list i → r ≡ r′
 task-at-only list i r r′ = only
 
 -- ---- add_task
-abbrev pub AddTask : TaskList → Task → TaskList → Type 0
-AddTask list t r = r ≡ added list t
-
-add-task-says : (κs list t list′ t′ r : _) → Says (λ M 𝓤 H A mem run. add-task.ensures-1 𝓤 H κs A mem run list t list′ t′ r) (AddTask list t r)
+add-task-says : (κs list t list′ t′ r : _) → Says (λ M 𝓤 H A mem run. add-task.ensures-1 𝓤 H κs A mem run list t list′ t′ r) (r ≡ added list t)
 add-task-says κs list t list′ t′ r M 𝓤 H A mem run = refl
 
-pub add-task-only : (list : TaskList) (t : Task) (r r′ : TaskList) → AddTask list t r → AddTask list t r′ → r ≡ r′
+pub add-task-only : (list : TaskList) (t : Task) (r r′ : TaskList) → r ≡ added list t → r′ ≡ added list t → r ≡ r′
 add-task-only list t r r′ = only
 
 -- ---- task_refusal

@@ -7,9 +7,9 @@ use native.Mathlib.Decide.{ℕ-discrete}
 use native.Mathlib.Nat.{add-zero, mul-le-mul-right, mul-pos}
 use mathlib.Core.Path.{_≡_, refl, sym, ap, subst, subst₂, _∙_}
 use mathlib.Core.Logic.{_≢_, ⊎-elim}
-use mathlib.Core.Bool.{Bool, true, false, not, _&&_}
+use mathlib.Core.Bool.{Bool, true, false, _&&_}
 use mathlib.Core.List.{List, [], _∷_, _++_}
-use lib.Dec.{leb, ltb, eqb}
+use lib.Dec.{leb, eqb}
 use borrow.Author.Tests.{lt-ltb, le-ltb, le-leb, lt-leb, eq-eqb, ne-eqb, leb-true, leb-false}
 use lib.ListN.{length, take, drop, set, length-set}
 use lib.Seq.{drop-cons, take-take, take-suc-set, getD-take, getD-set-same, getD-set-other, take-set-le, set-set, set-getD}
@@ -18,7 +18,7 @@ use Rattle.laws.specs.Lists.{nth}
 use Rattle.laws.specs.Order.{upTo}
 use Rattle.tasks.specs.Instance.{Instance, jobEnd}
 use Rattle.laws.proofs.SumLaws.{lt-or-ge}
-use Rattle.laws.proofs.TestLaws.{all-same, all-true}
+use Rattle.laws.proofs.TestLaws.{all-true}
 use Rattle.table.specs.Table.{cells}
 use Rattle.table.proofs.TableLaws.{done-same}
 use Rattle.rules.specs.Walk.{Rule, found, none, spend, Answer, ended, stopped, limited}

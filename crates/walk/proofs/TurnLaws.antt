@@ -6,7 +6,7 @@ use native.Mathlib.Nat.{add-zero, add-suc, zero-add, mul-le-mul-right}
 use native.Mathlib.Decide.{ℕ-discrete}
 use lib.Dec.{eqb}
 use Rattle.laws.proofs.SumLaws.{lt-or-ge}
-use mathlib.Core.Path.{_≡_, refl, sym, ap, subst, transport, _∙_}
+use mathlib.Core.Path.{_≡_, refl, sym, ap, subst, _∙_}
 use mathlib.Core.Logic.{_≢_, inl, inr}
 use mathlib.Core.Bool.{Bool, true, false, not, _&&_}
 use mathlib.Core.List.{List}
@@ -173,12 +173,6 @@ module _ {board : List ℕ} {place sets first : ℕ} {t₀ l₀ : List ℕ} {tri
     same = ap (λ k. still board place sets k (floorOn board t₀ (firstOn board place) (place % 4)) t₀ l₀ 0 0 tries) (omega arith)
         ∙ ap (λ f. still board place sets (tasksOn board - 0) f t₀ l₀ 0 0 tries) (sym (ef ∙ ap (λ x. floorOn board t₀ x (place % 4)) e));
   }
-
-  -- the same with equal parts
-  pub turn-same : {t l t″ l″ : List ℕ} {used barred used″ barred″ rest rest″ : ℕ} → Turn board place sets first t₀ l₀ tries floor t l used barred rest
-      → t″ ≡ t → l″ ≡ l → used″ ≡ used → barred″ ≡ barred → rest″ ≡ rest → Turn board place sets first t₀ l₀ tries floor t″ l″ used″ barred″ rest″
-  turn-same turn et el eu eb er =
-      transport (λ i. Turn board place sets first t₀ l₀ tries floor (sym et i) (sym el i) (sym eu i) (sym eb i) (sym er i)) turn
 
   module _ {t l : List ℕ} {used barred rest : ℕ} (turn : Turn board place sets first t₀ l₀ tries floor t l used barred rest) where
     -- what was seen to bar idle is a number

@@ -2,9 +2,9 @@
 -- Assumes nothing.
 use borrow.Author.Needs.{needs}
 use Prim.Native.Nat.{_*_, _/_}
-use mathlib.Core.Path.{ap, sym}
+use mathlib.Core.Path.{ap}
 use native.Mathlib.Omega.{arith}
-use native.Mathlib.Nat.{le-trans, le-of-lt, lt-of-le-of-lt, mul-le-mul, div-le-self}
+use native.Mathlib.Nat.{lt-of-le-of-lt, mul-le-mul, div-le-self}
 use lib.Dec.{lit<}
 use Rattle.laws.specs.Lcm.{lcmOf}
 use Rattle.laws.proofs.LcmLaws.{gcd-pos, gcd-of, lcm-zero}

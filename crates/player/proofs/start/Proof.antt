@@ -48,7 +48,6 @@ use Rattle.tasks.proofs.TaskList as L
 use Rattle.tasks.proofs.TaskList.Laws as L′
 use Rattle.player.specs.Player.{started, afterStart}
 use Rattle.player.specs.declared.Player.{Player}
-use Rattle.clock.specs.declared.Shown.{Shown}
 use Rattle.player.specs.declared.Started.{Started}
 use Rattle.player.proofs.Player as T
 use Rattle.player.proofs.Player.Laws as T′

@@ -62,12 +62,6 @@ abbrev cell-μ-loop : cell-lts.MeasureT-loop
 cell-μ-loop table₀ board left₀ place tries sets slot core first floor used₀ barred₀ rest₀ table left used barred rest =
     16 - lowest rest
 
-cell-element-copy-out-wide : (t : ℕ) → cell-lts.Need-element-copy-out-wide (cell-claims t) (cell-at t) cell.Post cell-Inv-loop cell-μ-loop
-cell-element-copy-out-wide t c = search needs
-
-cell-wide-requires : (t : ℕ) → cell-lts.Need-wide-requires (cell-claims t) (cell-at t) cell.Post cell-Inv-loop cell-μ-loop
-cell-wide-requires t c κs = search needs
-
 cell-mul-first : (t : ℕ) → cell-lts.Need-mul-first (cell-claims t) (cell-at t) cell.Post cell-Inv-loop cell-μ-loop
 cell-mul-first t c =
     omega (arith, cell-in _ _ (c .wide .ensures .0) (c .before .before .pre .1 .fits) (c .before .before .pre .1 .core-in))
@@ -83,9 +77,6 @@ cell-of-core-requires t c κs =
 cell-loop-holds : (t : ℕ) → cell-lts.Need-loop-holds (cell-claims t) (cell-at t) cell.Post cell-Inv-loop cell-μ-loop
 cell-loop-holds t c =
     begins (c .before .before .before .before .before .pre .1) (first-at (c .before .before .before .before .before .args .board .now) _ (c .before .before .before .wide .ensures .0)) (c .of-core .ensures) (c .before .floor .ensures) (omega arith)
-
-cell-lowest-requires : (t : ℕ) → cell-lts.Need-lowest-requires (cell-claims t) (cell-at t) cell.Post cell-Inv-loop cell-μ-loop
-cell-lowest-requires t c κs = search needs
 
 cell-without-requires : (t : ℕ) → cell-lts.Need-without-requires (cell-claims t) (cell-at t) cell.Post cell-Inv-loop cell-μ-loop
 cell-without-requires t c κs =
@@ -103,9 +94,6 @@ cell-element-copy-out-wide-2 : (t : ℕ) → cell-lts.Need-element-copy-out-wide
 cell-element-copy-out-wide-2 t c =
     omega (arith, task-few (c .before .before .before .loop .inv) (c .before .before .loop-test .taken) (c .before .lowest .ensures))
 
-cell-wide-requires-2 : (t : ℕ) → cell-lts.Need-wide-requires-2 (cell-claims t) (cell-at t) cell.Post cell-Inv-loop cell-μ-loop
-cell-wide-requires-2 t c κs = search needs
-
 cell-add-barred : (t : ℕ) → cell-lts.Need-add-barred (cell-claims t) (cell-at t) cell.Post cell-Inv-loop cell-μ-loop
 cell-add-barred t c =
     omega (arith, bar-few (c .before .before .before .before .before .loop .inv), c .wide2 .ensures .1)
@@ -113,12 +101,6 @@ cell-add-barred t c =
 cell-add-if1 : (t : ℕ) → cell-lts.Need-add-if1 (cell-claims t) (cell-at t) cell.Post cell-Inv-loop cell-μ-loop
 cell-add-if1 t c =
     omega (arith, task-few (c .before .before .before .before .before .loop .inv) (c .before .before .before .before .loop-test .taken) (c .before .before .before .lowest .ensures))
-
-cell-cast-result : (t : ℕ) → cell-lts.Need-cast-result (cell-claims t) (cell-at t) cell.Post cell-Inv-loop cell-μ-loop
-cell-cast-result t c = search needs
-
-cell-add-result : (t : ℕ) → cell-lts.Need-add-result (cell-claims t) (cell-at t) cell.Post cell-Inv-loop cell-μ-loop
-cell-add-result t c = search needs
 
 cell-returns : (t : ℕ) → cell-lts.Need-returns (cell-claims t) (cell-at t) cell.Post cell-Inv-loop cell-μ-loop
 cell-returns t c =
@@ -152,9 +134,6 @@ cell-element-write-table : (t : ℕ) → cell-lts.Need-element-write-table (cell
 cell-element-write-table t c =
     cell-in _ _ (c .before .before .before .before .before .before .before .before .before .before .before .before .before .before .before .wide .ensures .0) (c .before .before .before .before .before .before .before .before .before .before .before .before .before .before .before .before .before .pre .1 .fits) (c .before .before .before .before .before .before .before .before .before .before .before .before .before .before .before .before .before .pre .1 .core-in)
 
-cell-add-close-slot : (t : ℕ) → cell-lts.Need-add-close-slot (cell-claims t) (cell-at t) cell.Post cell-Inv-loop cell-μ-loop
-cell-add-close-slot t c = search needs
-
 cell-without-requires-2 : (t : ℕ) → cell-lts.Need-without-requires-2 (cell-claims t) (cell-at t) cell.Post cell-Inv-loop cell-μ-loop
 cell-without-requires-2 t c κs =
     task-few (c .before .before .before .before .before .before .before .before .before .before .before .before .before .loop .inv) (c .before .before .before .before .before .before .before .before .before .before .before .before .loop-test .taken) (c .before .before .before .before .before .before .before .before .before .before .before .lowest .ensures)
@@ -166,12 +145,6 @@ cell-close-slot-requires t c κs =
 cell-returns-2 : (t : ℕ) → cell-lts.Need-returns-2 (cell-claims t) (cell-at t) cell.Post cell-Inv-loop cell-μ-loop
 cell-returns-2 t c =
     ends (c .before .before .before .before .before .before .before .before .before .before .before .before .before .before .before .before .loop .inv) (c .before .before .before .before .before .before .before .before .before .before .before .before .before .before .before .loop-test .taken) (c .before .before .before .before .before .before .before .before .before .before .before .before .before .before .lowest .ensures) (c .before .before .before .before .before .before .before .before .before .before .before .before .before .without .ensures) (c .before .before .before .before .before .before .before .before .before .before .before .wide2 .ensures .0) (c .before .before .before .before .before .before .before .before .before .before .before .wide2 .ensures .1) (c .before .before .before .before .before .before .before .before .before .before .if1 .taken) (c .before .before .before .before .before .before .before .before .before .if2 .left) (c .before .before .before .before .before .before .before .before .counter .ensures .0) (c .before .before .before .before .before .before .rate .ensures) (c .before .before .before .before .before .put .ensures .0) (c .before .before .before .before .before .put .ensures .1) (c .before .before .without2 .ensures) (c .before .close-slot .ensures) (c .if3 .taken)
-
-cell-take-back-requires : (t : ℕ) → cell-lts.Need-take-back-requires (cell-claims t) (cell-at t) cell.Post cell-Inv-loop cell-μ-loop
-cell-take-back-requires t c κs = search needs
-
-cell-cast-used : (t : ℕ) → cell-lts.Need-cast-used (cell-claims t) (cell-at t) cell.Post cell-Inv-loop cell-μ-loop
-cell-cast-used t c = search needs
 
 cell-loop-less : (t : ℕ) → cell-lts.Need-loop-less (cell-claims t) (cell-at t) cell.Post cell-Inv-loop cell-μ-loop
 cell-loop-less t c =
@@ -189,18 +162,9 @@ cell-loop-again-2 : (t : ℕ) → cell-lts.Need-loop-again-2 (cell-claims t) (ce
 cell-loop-again-2 t c =
     bars (c .before .before .before .before .before .before .loop .inv) (c .before .before .before .before .before .loop-test .taken) (c .before .before .before .before .lowest .ensures) (c .before .before .before .without .ensures) (c .before .wide2 .ensures .0) (c .before .wide2 .ensures .1) (c .if1 .left)
 
-cell-cast-result-2 : (t : ℕ) → cell-lts.Need-cast-result-2 (cell-claims t) (cell-at t) cell.Post cell-Inv-loop cell-μ-loop
-cell-cast-result-2 t c = search needs
-
 cell-returns-3 : (t : ℕ) → cell-lts.Need-returns-3 (cell-claims t) (cell-at t) cell.Post cell-Inv-loop cell-μ-loop
 cell-returns-3 t c =
     idle-barred (c .before .before .loop .inv) (c .before .loop-test .left) (c .if4 .taken)
-
-cell-cast-result-3 : (t : ℕ) → cell-lts.Need-cast-result-3 (cell-claims t) (cell-at t) cell.Post cell-Inv-loop cell-μ-loop
-cell-cast-result-3 t c = search needs
-
-cell-add-result-2 : (t : ℕ) → cell-lts.Need-add-result-2 (cell-claims t) (cell-at t) cell.Post cell-Inv-loop cell-μ-loop
-cell-add-result-2 t c = search needs
 
 cell-returns-4 : (t : ℕ) → cell-lts.Need-returns-4 (cell-claims t) (cell-at t) cell.Post cell-Inv-loop cell-μ-loop
 cell-returns-4 t c =
@@ -214,9 +178,6 @@ cell-element-write-table-2 : (t : ℕ) → cell-lts.Need-element-write-table-2 (
 cell-element-write-table-2 t c =
     cell-in _ _ (c .before .before .before .before .before .before .before .wide .ensures .0) (c .before .before .before .before .before .before .before .before .before .pre .1 .fits) (c .before .before .before .before .before .before .before .before .before .pre .1 .core-in)
 
-cell-add-close-slot-2 : (t : ℕ) → cell-lts.Need-add-close-slot-2 (cell-claims t) (cell-at t) cell.Post cell-Inv-loop cell-μ-loop
-cell-add-close-slot-2 t c = search needs
-
 cell-close-slot-requires-2 : (t : ℕ) → cell-lts.Need-close-slot-requires-2 (cell-claims t) (cell-at t) cell.Post cell-Inv-loop cell-μ-loop
 cell-close-slot-requires-2 t c κs =
     (omega (arith, c .before .before .before .before .before .before .before .before .before .before .before .pre .0), c .before .before .before .before .before .before .before .before .before .before .before .pre .1)
@@ -224,18 +185,6 @@ cell-close-slot-requires-2 t c κs =
 cell-returns-5 : (t : ℕ) → cell-lts.Need-returns-5 (cell-claims t) (cell-at t) cell.Post cell-Inv-loop cell-μ-loop
 cell-returns-5 t c =
     idles (c .before .before .before .before .before .before .loop .inv) (c .before .before .before .before .before .loop-test .left) (omega (arith, c .before .before .before .before .if4 .left)) (c .before .before .before .if5 .left) (c .close-slot2 .ensures)
-
-close-slot-add-if1 : (t : ℕ) → close-slot-lts.Need-add-if1 (close-slot-claims t) (close-slot-at t) close-slot.Post
-close-slot-add-if1 t c = search needs
-
-close-slot-element-copy-out-wide : (t : ℕ) → close-slot-lts.Need-element-copy-out-wide (close-slot-claims t) (close-slot-at t) close-slot.Post
-close-slot-element-copy-out-wide t c = search needs
-
-close-slot-wide-requires : (t : ℕ) → close-slot-lts.Need-wide-requires (close-slot-claims t) (close-slot-at t) close-slot.Post
-close-slot-wide-requires t c κs = search needs
-
-close-slot-add-cell : (t : ℕ) → close-slot-lts.Need-add-cell (close-slot-claims t) (close-slot-at t) close-slot.Post
-close-slot-add-cell t c = search needs
 
 close-slot-cell-requires : (t : ℕ) → close-slot-lts.Need-cell-requires (close-slot-claims t) (close-slot-at t) close-slot.Post
 close-slot-cell-requires t c κs =
@@ -249,27 +198,9 @@ close-slot-closes-requires : (t : ℕ) → close-slot-lts.Need-closes-requires (
 close-slot-closes-requires t c κs =
     (omega (arith, c .before .before .before .before .pre .1 .fits .slots, c .before .before .before .before .pre .1 .fits .slot-in), c .before .before .before .before .pre .1 .fits .tasks)
 
-close-slot-add-if3 : (t : ℕ) → close-slot-lts.Need-add-if3 (close-slot-claims t) (close-slot-at t) close-slot.Post
-close-slot-add-if3 t c = search needs
-
-close-slot-element-copy-out-wide-2 : (t : ℕ) → close-slot-lts.Need-element-copy-out-wide-2 (close-slot-claims t) (close-slot-at t) close-slot.Post
-close-slot-element-copy-out-wide-2 t c = search needs
-
-close-slot-wide-requires-2 : (t : ℕ) → close-slot-lts.Need-wide-requires-2 (close-slot-claims t) (close-slot-at t) close-slot.Post
-close-slot-wide-requires-2 t c κs = search needs
-
-close-slot-add-enter : (t : ℕ) → close-slot-lts.Need-add-enter (close-slot-claims t) (close-slot-at t) close-slot.Post
-close-slot-add-enter t c = search needs
-
 close-slot-enter-requires : (t : ℕ) → close-slot-lts.Need-enter-requires (close-slot-claims t) (close-slot-at t) close-slot.Post
 close-slot-enter-requires t c κs =
     (omega (arith, c .before .before .before .before .before .before .before .before .before .before .pre .1 .fits .slots, c .before .before .wide2 .ensures .0, c .before .if3 .taken), c .before .before .before .before .before .before .before .before .before .before .pre .1 .fits .tasks)
-
-close-slot-add-cell-2 : (t : ℕ) → close-slot-lts.Need-add-cell-2 (close-slot-claims t) (close-slot-at t) close-slot.Post
-close-slot-add-cell-2 t c = search needs
-
-close-slot-mul-cell : (t : ℕ) → close-slot-lts.Need-mul-cell (close-slot-claims t) (close-slot-at t) close-slot.Post
-close-slot-mul-cell t c = search needs
 
 close-slot-cell-requires-2 : (t : ℕ) → close-slot-lts.Need-cell-requires-2 (close-slot-claims t) (close-slot-at t) close-slot.Post
 close-slot-cell-requires-2 t c κs =
@@ -278,9 +209,6 @@ close-slot-cell-requires-2 t c κs =
 close-slot-returns-2 : (t : ℕ) → close-slot-lts.Need-returns-2 (close-slot-claims t) (close-slot-at t) close-slot.Post
 close-slot-returns-2 t c =
     next-slots (c .before .before .before .before .before .before .before .before .before .before .before .before .before .before .pre .1) (omega (arith, c .before .before .before .before .before .before .before .before .before .before .before .before .wide .ensures .0, c .before .before .before .before .before .before .before .before .before .before .before .if1 .left)) (c .before .before .before .before .before .before .before .before .before .closes .ensures) (c .before .before .before .before .before .before .before .before .if2 .taken) (omega (arith, c .before .before .before .before .before .before .wide2 .ensures .0, c .before .before .before .before .before .if3 .taken)) (c .before .before .before .enter .ensures) (c .cell2 .ensures)
-
-close-slot-add-result : (t : ℕ) → close-slot-lts.Need-add-result (close-slot-claims t) (close-slot-at t) close-slot.Post
-close-slot-add-result t c = search needs
 
 close-slot-returns-3 : (t : ℕ) → close-slot-lts.Need-returns-3 (close-slot-claims t) (close-slot-at t) close-slot.Post
 close-slot-returns-3 t c =
@@ -291,74 +219,19 @@ close-slot-returns-4 t c =
     starved (c .before .before .before .before .before .before .pre .1) (omega (arith, c .before .before .before .before .wide .ensures .0, c .before .before .before .if1 .left)) (c .before .closes .ensures) (c .if2 .left) (omega arith)
 
 pub +cell+close-slot-spec : {M : Type 1} → statement M
-+cell+close-slot-spec = close μ-cell μ-close-slot (λ t. cell-lts.spec (cell-claims t)
-    (cell-at t)
-    cell.Post
-    cell-Inv-loop
-    cell-μ-loop
-    (cell-element-copy-out-wide t)
-    (cell-wide-requires t)
-    (cell-mul-first t)
-    (cell-floor-requires t)
-    (cell-of-core-requires t)
-    (cell-loop-holds t)
-    (cell-lowest-requires t)
-    (cell-without-requires t)
-    (cell-add-wide t)
-    (cell-mul-wide t)
-    (cell-element-copy-out-wide-2 t)
-    (cell-wide-requires-2 t)
-    (cell-add-barred t)
-    (cell-add-if1 t)
-    (cell-cast-result t)
-    (cell-add-result t)
-    (cell-returns t)
-    (cell-counter-requires t)
-    (cell-rate-requires t)
-    (cell-put-requires t)
-    (cell-add-table t)
-    (cell-cast-table t)
-    (cell-add-table-2 t)
-    (cell-element-write-table t)
-    (cell-add-close-slot t)
-    (cell-without-requires-2 t)
-    (cell-close-slot-requires t)
-    (cell-returns-2 t)
-    (cell-take-back-requires t)
-    (cell-cast-used t)
-    (cell-loop-less t)
-    (cell-loop-again t)
-    (cell-loop-less-2 t)
-    (cell-loop-again-2 t)
-    (cell-cast-result-2 t)
-    (cell-returns-3 t)
-    (cell-cast-result-3 t)
-    (cell-add-result-2 t)
-    (cell-returns-4 t)
-    (cell-add-table-3 t)
-    (cell-element-write-table-2 t)
-    (cell-add-close-slot-2 t)
-    (cell-close-slot-requires-2 t)
++cell+close-slot-spec = close μ-cell μ-close-slot
+    (λ t. cell-lts.spec
+    (cell-claims t) (cell-at t) cell.Post cell-Inv-loop cell-μ-loop (λ c. search needs) (λ c κs. search needs) (cell-mul-first t)
+    (cell-floor-requires t) (cell-of-core-requires t) (cell-loop-holds t) (λ c κs. search needs) (cell-without-requires t) (cell-add-wide t)
+    (cell-mul-wide t) (cell-element-copy-out-wide-2 t) (λ c κs. search needs) (cell-add-barred t) (cell-add-if1 t) (λ c. search needs)
+    (λ c. search needs) (cell-returns t) (cell-counter-requires t) (cell-rate-requires t) (cell-put-requires t) (cell-add-table t)
+    (cell-cast-table t) (cell-add-table-2 t) (cell-element-write-table t) (λ c. search needs) (cell-without-requires-2 t)
+    (cell-close-slot-requires t) (cell-returns-2 t) (λ c κs. search needs) (λ c. search needs) (cell-loop-less t) (cell-loop-again t)
+    (cell-loop-less-2 t) (cell-loop-again-2 t) (λ c. search needs) (cell-returns-3 t) (λ c. search needs) (λ c. search needs)
+    (cell-returns-4 t) (cell-add-table-3 t) (cell-element-write-table-2 t) (λ c. search needs) (cell-close-slot-requires-2 t)
     (cell-returns-5 t))
-    λ t. close-slot-lts.spec (close-slot-claims t)
-    (close-slot-at t)
-    close-slot.Post
-    (close-slot-add-if1 t)
-    (close-slot-element-copy-out-wide t)
-    (close-slot-wide-requires t)
-    (close-slot-add-cell t)
-    (close-slot-cell-requires t)
-    (close-slot-returns t)
-    (close-slot-closes-requires t)
-    (close-slot-add-if3 t)
-    (close-slot-element-copy-out-wide-2 t)
-    (close-slot-wide-requires-2 t)
-    (close-slot-add-enter t)
-    (close-slot-enter-requires t)
-    (close-slot-add-cell-2 t)
-    (close-slot-mul-cell t)
-    (close-slot-cell-requires-2 t)
-    (close-slot-returns-2 t)
-    (close-slot-add-result t)
-    (close-slot-returns-3 t)
-    (close-slot-returns-4 t)
+    λ t. close-slot-lts.spec
+    (close-slot-claims t) (close-slot-at t) close-slot.Post (λ c. search needs) (λ c. search needs) (λ c κs. search needs)
+    (λ c. search needs) (close-slot-cell-requires t) (close-slot-returns t) (close-slot-closes-requires t) (λ c. search needs)
+    (λ c. search needs) (λ c κs. search needs) (λ c. search needs) (close-slot-enter-requires t) (λ c. search needs) (λ c. search needs)
+    (close-slot-cell-requires-2 t) (close-slot-returns-2 t) (λ c. search needs) (close-slot-returns-3 t) (close-slot-returns-4 t)
