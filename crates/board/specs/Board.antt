@@ -23,11 +23,11 @@ entryOn board slot v = nth board (slot * 16 + v)
 abbrev pub rateOn : List ℕ → ℕ → ℕ → ℕ
 rateOn board v core = nth board (16384 + (v * 4 + core))
 
--- 1 if all positive rates of task v are equal, else 0
+-- rule A's mark: 1 for the quick engine if all positive rates of task v are equal, else 0
 abbrev pub evenOn : List ℕ → ℕ → ℕ
 evenOn board v = nth board (16448 + v)
 
--- not 0 if the core and core j are twins
+-- rule B's mark: not 0 for the quick engine if the core and core j are twins
 abbrev pub twinOn : List ℕ → ℕ → ℕ → ℕ
 twinOn board core j = nth board (16464 + (core * 4 + j))
 
@@ -76,7 +76,7 @@ floorOn board t first core = most core (twinRankOn board t first core)
 unfoldable pub settledOn : List ℕ → List ℕ → ℕ → ℕ → Bool
 settledOn board l slot v = imp (not (eqb (entryOn board slot v % 2) 0)) (eqb (nth l (counterOn board slot v)) 0)
 
--- no task before this one has a job whose highest-numbered slot this is
+-- the slot's mark: the task with which closing it begins, since no task before it has a job that ends here (`Ready`)
 abbrev pub endsOn : List ℕ → ℕ → ℕ
 endsOn board slot = nth board (16739 + slot)
 

@@ -1,10 +1,10 @@
 // The board, which is filled once for a search, and what the walk reads there.
 //
 // For slot t and task v at place t * 16 + v it has twice the number of the counter of the task's job there, one more in the
-// job's highest-numbered slot; then the rates, four a task; for rule A a 1 for each task whose positive rates are equal; for
-// rule B, four a core, a 1 for each earlier twin; the task count, the cores, the slots; for each task, by the work left up to
-// 15, the cores on which its rate is positive and within it, as bits; and for each slot the first task whose job has its
-// highest-numbered slot there, the task count if there is none.
+// job's highest-numbered slot; then the rates, four a task; for rule A a 1 for each task whose positive rates are equal,
+// for rule B, four a core, a 1 for each earlier twin, both 0 for the plain engine; the task count, the cores, the slots;
+// for each task, by the work left up to 15, the cores on which its rate is positive and within it, as bits; and for each
+// slot the first task whose job has its highest-numbered slot there, the task count if there is none.
 // Beside it stands `left`, the work left of each job at its counter, and 0 at the counter of closed slots.
 ghost use mathlib.Core.Path.{_≡_};
 ghost use Prim.Native.Nat.{_+_, _≤_, _<_, min};

@@ -24,7 +24,7 @@ ranges h position age m n = within 1 1024 h ∷ within 1 4 m ∷ within 1 16 n �
 unfoldable pub stepRefusal : ℕ → ℕ → ℕ → ℕ → ℕ → ℕ → ℕ → ℕ
 stepRefusal last h position age m n tick = unless (every (ranges h position age m n)) 12 (unless (ltb (elapsedOf tick last) (2 ^ 31)) 15 0)
 
--- what a refused step works out: last, position and age stay as they were
+-- what a refused step works out, and a start: last, position and age as they are
 abbrev pub staysOf : ℕ → ℕ → ℕ → ℕ → Next
 staysOf last position age verdict = record { last = last; missed = 0; at = 0; position = position; age = age; verdict = verdict }
 

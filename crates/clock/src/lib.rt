@@ -93,7 +93,7 @@ fn missed(elapsed: u32) -> u32
     if elapsed == 0 { 0 } else { elapsed - 1 }
 }
 
-// What a refused step works out: the record stays as it was.
+// What a refused step works out, and a start: last, position and age as they are.
 pub fn stays(last: u32, position: u16, age: u16, verdict: u8) -> Next
     ensures { λ r. ⌜ r ≡ staysOf last position age verdict ⌝ }
 {

@@ -105,7 +105,7 @@ questions =
     ∷ searching 2 figure 1 1000 6
     ∷ []
 
--- what 01 says
+-- what 01 says, and P5's tries
 replies : List Reply
 replies =
     searched 0 1 (1 ∷ []) ∷ searched 14 0 (0 ∷ [])

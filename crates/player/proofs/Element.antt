@@ -1,5 +1,5 @@
--- One byte of an array that lies within an entry of the context: it can be taken out, and put back with any value, as `Types/Part.antt`'s `sub` does for a field.
--- An array's cell is its elements' cells side by side, of which one is taken out. Assumes `Given` (of it `at-elems` and `elems-at`).
+-- One byte of an array that lies within an entry of the context: it can be taken out, and put back with any value, as the toolchain's law for a field does.
+-- An array's cell is its elements' cells side by side, of which one is taken out. Assumes nothing; the toolchain's `Given` is a premise (of it `at-elems` and `elems-at`).
 use mathlib.Core.Path.{_≡_, sym, ap, _∙_, subst}
 use Prim.Native.Nat.{ℕ, zero, suc, _+_, _<_}
 use native.Mathlib.Nat.{not-suc-le-zero, le-of-suc-le-suc}

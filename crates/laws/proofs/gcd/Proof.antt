@@ -1,4 +1,4 @@
--- `windows::gcd` meets its contract. The loop's invariant: the two numbers have the divisors of those given. The measure is the second.
+-- `laws::gcd` meets its contract. The loop's invariant: the two numbers have the divisors of those given. The measure is the second.
 -- Assumes nothing.
 use native.Mathlib.Omega.{arith}
 use native.Mathlib.Nat.{mod-lt}

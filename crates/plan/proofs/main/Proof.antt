@@ -1,4 +1,4 @@
--- `plan::main` meets its contract: what was written lies within the buffer.
+-- `plan::main` is safe: what was written lies within the buffer.
 -- Assumes nothing.
 use mathlib.Core.Path.{sym}
 use lib.Seq.{length-take-le}
