@@ -66,7 +66,7 @@ uint64_t xiphomera_start(xiphomera_player *player, uint8_t n, const uint16_t off
                          uint8_t cores, const uint8_t *table, size_t table_length, uint32_t tick, uint8_t cells[4]);
 
 /* Advances the record to a tick and shows the slot that it has come to: four cells, one a core. Refusals 12 and 15
- * leave the record as it was and show four 0 cells. The ticks may start again at zero. */
+ * leave the record as it was and show four 0 cells. The ticks may wrap from 4294967295 to 0. */
 uint64_t xiphomera_step(xiphomera_player *player, uint32_t tick, uint8_t cells[4]);
 
 /* ---- The search and the checker */
