@@ -59,17 +59,16 @@ fn cell(
     board: &[u16; 17763],
     left: &mut [u16; 32768],
     place: usize,
-    tries: u32,
+    mut used: u32,
     sets: u64,
 ) -> u64
     requires { ⌜ Stands (now board) place sets ⌝ }
-    ensures { λ r. ⌜ Ran (now (board .entry)) place sets (now (table .entry)) (now (left .entry)) tries r (now (table .exit)) (now (left .exit)) ⌝ }
+    ensures { λ r. ⌜ Ran (now (board .entry)) place sets (now (table .entry)) (now (left .entry)) used r (now (table .exit)) (now (left .exit)) ⌝ }
 {
     let slot = place / 4;
     let core = place % 4;
     let first = slot * wide(board[CORES]);
     let floor = floor(board, table, first, core);
-    let mut used = tries;
     let mut barred: usize = 0;
     let mut rest = sets::of_core(sets, core);
     while rest != 0 {

@@ -55,11 +55,11 @@ abbrev close-slot-claims : ℕ → close-slot-lts.Claims
 close-slot-claims t = (wide-reads.Asked, wide-reads.Learnt, cell-below t, cell.Post, closes-reads.Asked, closes-reads.Learnt, enter-reads.Asked, enter-reads.Learnt)
 
 abbrev cell-Inv-loop : cell-lts.InvT-loop
-cell-Inv-loop table₀ board left₀ place tries sets slot core first floor used₀ barred₀ rest₀ table left used barred rest =
-    Turn board place sets first table₀ left₀ tries floor table left used barred rest
+cell-Inv-loop table₀ board left₀ place used₀ sets slot core first floor barred₀ rest₀ table left used barred rest =
+    Turn board place sets first table₀ left₀ used₀ floor table left used barred rest
 
 abbrev cell-μ-loop : cell-lts.MeasureT-loop
-cell-μ-loop table₀ board left₀ place tries sets slot core first floor used₀ barred₀ rest₀ table left used barred rest =
+cell-μ-loop table₀ board left₀ place used₀ sets slot core first floor barred₀ rest₀ table left used barred rest =
     16 - lowest rest
 
 cell-mul-first : (t : ℕ) → cell-lts.Need-mul-first (cell-claims t) (cell-at t) cell.Post cell-Inv-loop cell-μ-loop
