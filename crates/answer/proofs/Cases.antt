@@ -1,19 +1,13 @@
 -- 01's worked example and a refusal, as they are written.
 -- Assumes nothing.
 use Prim.Native.Nat.{ℕ}
-use Prim.Native.Char.{code}
-use Prim.Native.String.{String, len, charAt}
 use mathlib.Core.Path.{_≡_, refl}
 use mathlib.Core.List.{List, [], _∷_}
 use Rattle.laws.specs.Sum.{gate}
 use Rattle.laws.specs.Lists.{tab}
 use Rattle.lines.specs.Lines.{hexOf, digits, lineOf}
 use Rattle.answer.specs.Write.{verdictFrame, cellAt, slotFrame, slotLines, writeAnswer}
-
--- the bytes of a text
-bytes : String → List ℕ
-unfolding tab
-bytes s = tab (len s) (λ i. code (charAt s i))
+use Rattle.lines.proofs.Text.{bytes}
 
 -- what is written: verdict, tries, slots, cores and table
 writing : ℕ → ℕ → ℕ → ℕ → List ℕ → List ℕ

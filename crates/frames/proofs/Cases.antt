@@ -1,8 +1,7 @@
 -- 01's worked example as it is read, and one short text for each file refusal.
 -- Assumes nothing.
 use Prim.Native.Nat.{ℕ}
-use Prim.Native.Char.{code}
-use Prim.Native.String.{String, len, charAt}
+use Prim.Native.String.{String}
 use mathlib.Core.Path.{_≡_, refl}
 use mathlib.Core.List.{List, [], _∷_, map}
 use lib.ListN.{replicate}
@@ -13,11 +12,7 @@ use Rattle.lines.specs.Frame.{sortOf, two, four}
 use Rattle.lines.specs.Lines.{isDigit, digitOf, pairs, bytesOf, before, lines}
 use Rattle.lines.specs.Refusal.{lengthRefusal, frameRefusal, lineRefusal}
 use Rattle.frames.specs.Read.{Read, refused, problem, mayFollow, rightNumber, inPlace, taskOf, taken, placeRefusal, readLines, readWithin, readProblem}
-
--- the bytes of a text
-bytes : String → List ℕ
-unfolding tab
-bytes s = tab (len s) (λ i. code (charAt s i))
+use Rattle.lines.proofs.Text.{bytes}
 
 -- what a text is read as
 reading : List ℕ → Read

@@ -4,3 +4,4 @@ pub mod ListLaws
 pub mod RefusalLaws
 mod DigitLaws
 pub mod Calls
+pub mod Text
