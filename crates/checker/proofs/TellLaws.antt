@@ -20,9 +20,10 @@ use Rattle.tasks.specs.declared.TaskList.{TaskList}
 use Rattle.tasks.specs.declared.Soundness.{Soundness}
 use Rattle.tasks.specs.declared.Soundness.the-variants.{Sound, Refused as NotSound}
 use Rattle.tasks.specs.Task.{task, rows}
-use Rattle.tasks.specs.Refusal.{unless, orNext, refusal, tableLength, IsSound, soundnessOf, Periods}
+use Rattle.tasks.specs.Refusal.{unless, orNext, refusal, tableLength, IsSound, testedAs, tested, Periods}
 use Rattle.tasks.specs.Instance.{Instance, instanceOf}
-use Rattle.tasks.proofs.SoundLaws.{sound-list, soundness-sound, soundness-refused}
+use Rattle.tasks.proofs.SoundLaws.{sound-list}
+use Rattle.tasks.proofs.AnswerLaws.{tested-sound, tested-refused}
 use Rattle.table.specs.Table.{cells, done}
 use Rattle.table.specs.Fault.{cellKind, workKind, jobKind, noFault, inJob, firstJob, jobFault, fault, refused, checked, checkedIf, check}
 use Rattle.faults.specs.Tests.{counterAt, countedKind}
@@ -118,23 +119,23 @@ not-valid (Job i k d) o e = let z : _≡_ {A = ℕ} 0 1 = cc in omega arith
 not-valid (Refused n) o e = let z : _≡_ {A = ℕ} 0 1 = cc in omega arith
 
 -- a list that is not refused has few cells
-pub few-cells : (list : TaskList) (m : ℕ) {s : Soundness} {len : Slots} → s ≡ soundnessOf m (rows list) → s ≡ Sound len → len .0 * m ≤ 4096
+pub few-cells : (list : TaskList) (m : ℕ) {s : Soundness} {len : Slots} → testedAs s ≡ tested m (rows list) → s ≡ Sound len → len .0 * m ≤ 4096
 few-cells list m {s} {len} e q =
-    let r = soundness-sound m (rows list) len (sym e ∙ q) in
+    let r = tested-sound m (rows list) s e len q in
     let l = sound-list m (rows list) (r .0) in
     mul-le-mul {n₂ = 1024} (omega (arith, r .1, l .few-slots)) (l .few-cores)
 
-module _ (list : TaskList) (m : ℕ) (t : List ℕ) {s : Soundness} (e : s ≡ soundnessOf m (rows list)) where
+module _ (list : TaskList) (m : ℕ) (t : List ℕ) {s : Soundness} (e : testedAs s ≡ tested m (rows list)) where
   -- a list that is refused
   pub refused-told : {number : ℕ} → s ≡ NotSound number → toldOf (Refused number) ≡ check m (rows list) t
   unfolding toldOf
   refused-told {number} q =
-      let r = soundness-refused m number (rows list) (sym e ∙ q) in
+      let r = tested-refused m (rows list) s e number q in
       ap refused (r .0) ∙ sym (check-refused m (rows list) t (λ z. r .1 (r .0 ∙ z)))
 
   module _ {len : Slots} (q : s ≡ Sound len) where
     sound : IsSound m (rows list) × (len .0 ≡ tableLength (rows list))
-    sound = soundness-sound m (rows list) len (sym e ∙ q)
+    sound = tested-sound m (rows list) s e len q
 
     -- a buffer that is too short
     pub short-told : length t < len .0 * m → toldOf (Refused 10) ≡ check m (rows list) t

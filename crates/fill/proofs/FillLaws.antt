@@ -18,11 +18,12 @@ use Rattle.laws.proofs.ListLaws.{seek-is, seek-none, seek-same, filled-before, 
 use Rattle.tasks.specs.declared.Task.{Task}
 use Rattle.tasks.specs.declared.TaskList.{TaskList}
 use Rattle.tasks.specs.Task.{taskAt}
-use Rattle.tasks.specs.Window.{isOpen, jobAt, lastSlot}
+use Rattle.tasks.specs.Window.{lastSlot}
 use Rattle.windows.specs.declared.Window.{Window}
 use Rattle.windows.specs.declared.Window.the-variants.{Open, Closed}
-use Rattle.windows.specs.Answer.{openIf, windowAt}
+use Rattle.windows.specs.Answer.{toldOf, inSlot}
 use Rattle.tasks.proofs.WindowLaws.{pos-T, job-lt}
+use Rattle.windows.proofs.AnswerLaws.{told-open, told-closed}
 use Rattle.board.specs.Ready.{isQuick}
 use Rattle.fill.specs.Board.{Fit, entryFor, gridEntry, evenPair, rowEven, coresTwin, quickMark, fitMark, evens, twins, tasks, cores, fits, marks, ruleTest, sizeAt, markAt, endMark, unmarkedOf, boardOf}
 
@@ -48,51 +49,32 @@ module _ (n : ℕ) (f : ℕ → Bool) where
 
 -- ---- the entry of a task in slot t of L, from the window w that is told
 module _ (L t : ℕ) (τ : Task) where
-  -- the window is open: for the job at t
-  open-told : (k : ℕ) (w : Window) → w ≡ windowAt L τ t → w ≡ Open k
-      → (isOpen L (τ .offset .0) (τ .deadline .0) (τ .period .0) t ≡ true) × (k ≡ jobAt L (τ .offset .0) (τ .period .0) t)
-  unfolding windowAt
-  open-told k w e f = go (isOpen L (τ .offset .0) (τ .deadline .0) (τ .period .0) t) (sym e ∙ f)
-    where
-      go : (b : Bool) → openIf b (jobAt L (τ .offset .0) (τ .period .0) t) ≡ Open k → (b ≡ true) × (k ≡ jobAt L (τ .offset .0) (τ .period .0) t)
-      go true h = (refl, cc)
-      go false h = let z : _≡_ {A = ℕ} 0 1 = cc in absurd (omega arith)
-
-  -- the window is closed
-  closed-told : (w : Window) → w ≡ windowAt L τ t → w ≡ Closed → isOpen L (τ .offset .0) (τ .deadline .0) (τ .period .0) t ≡ false
-  unfolding windowAt
-  closed-told w e f = go (isOpen L (τ .offset .0) (τ .deadline .0) (τ .period .0) t) (sym e ∙ f)
-    where
-      go : (b : Bool) → openIf b (jobAt L (τ .offset .0) (τ .period .0) t) ≡ Closed → b ≡ false
-      go true h = let z : _≡_ {A = ℕ} 0 1 = cc in absurd (omega arith)
-      go false h = refl
-
   -- the job that is told is one of the table's
-  pub told-job : (k : ℕ) (w : Window) → Fit L τ → w ≡ windowAt L τ t → w ≡ Open k → (k < L / τ .period .0) × (k < 1024)
+  pub told-job : (k : ℕ) (w : Window) → Fit L τ → toldOf w ≡ inSlot L τ t → w ≡ Open k → (k < L / τ .period .0) × (k < 1024)
   told-job k w fit e f =
-      let l : k < L / τ .period .0 = omega (arith, open-told k w e f .1, job-lt (fit .cyclic) (τ .offset .0) t) in
+      let l : k < L / τ .period .0 = omega (arith, told-open L t τ w e k f .1, job-lt (fit .cyclic) (τ .offset .0) t) in
       (l, omega (arith, fit .few-slots, fit .cyclic .cycle, mul-le-mul-left (L / τ .period .0) (pos-T (fit .cyclic))))
 
   -- its highest-numbered slot
-  pub entry-end : (v k last : ℕ) (w : Window) → w ≡ windowAt L τ t → w ≡ Open k → last ≡ lastSlot L (τ .offset .0) (τ .deadline .0) (τ .period .0) k → last ≡ t
+  pub entry-end : (v k last : ℕ) (w : Window) → toldOf w ≡ inSlot L τ t → w ≡ Open k → last ≡ lastSlot L (τ .offset .0) (τ .deadline .0) (τ .period .0) k → last ≡ t
       → 2 * (k * 16 + v) + 1 ≡ entryFor L τ (suc v) t
   unfolding entryFor gate
   entry-end v k last w e f el here =
-      let told = open-told k w e f in
+      let told = told-open L t τ w e k f in
       rw (told .0, ← told .1, ← el, eq-eqb last t here)
 
   -- an earlier one
-  pub entry-early : (v k last : ℕ) (w : Window) → w ≡ windowAt L τ t → w ≡ Open k → last ≡ lastSlot L (τ .offset .0) (τ .deadline .0) (τ .period .0) k → last ≢ t
+  pub entry-early : (v k last : ℕ) (w : Window) → toldOf w ≡ inSlot L τ t → w ≡ Open k → last ≡ lastSlot L (τ .offset .0) (τ .deadline .0) (τ .period .0) k → last ≢ t
       → 2 * (k * 16 + v) ≡ entryFor L τ (suc v) t
   unfolding entryFor gate
   entry-early v k last w e f el other =
-      let told = open-told k w e f in
+      let told = told-open L t τ w e k f in
       rw (told .0, ← told .1, ← el, ne-eqb last t other) (omega arith)
 
   -- no job's
-  pub entry-closed : (v : ℕ) (w : Window) → w ≡ windowAt L τ t → w ≡ Closed → 32768 ≡ entryFor L τ (suc v) t
+  pub entry-closed : (v : ℕ) (w : Window) → toldOf w ≡ inSlot L τ t → w ≡ Closed → 32768 ≡ entryFor L τ (suc v) t
   unfolding entryFor
-  entry-closed v w e f = rw (closed-told w e f)
+  entry-closed v w e f = rw (told-closed L t τ w e f)
 
 -- ---- the grid
 -- a task that was read

@@ -5,8 +5,8 @@ use mathlib.Core.Path.{_≡_, refl, sym, ap, _∙_}
 use mathlib.Core.Logic.{_≢_}
 use mathlib.Core.List.{List, [], _∷_}
 use Rattle.tasks.specs.declared.Task.{Task}
+use Rattle.tasks.specs.declared.Soundness.the-variants.{Refused as NotSound}
 use Rattle.tasks.specs.Task.{rows}
-use Rattle.tasks.specs.Refusal.{refusal, soundnessOf}
 use Rattle.tasks.proofs.AnswerLaws.{refused-answer}
 use Rattle.table.specs.Fault.{Checked, refused, check}
 use Rattle.rules.specs.Search.{Searched, search}
@@ -25,7 +25,7 @@ use Rattle.player.specs.Player.{recordOr, checkRefusal, recordOf, firstShown, s
 module _ {m : ℕ} {ts : List Task} {r : Lent} (s : Scanned m ts r) (x : r .refusal ≢ 0) where
   -- the search reports the refusal and 0 tries, and leaves the buffer
   pub search-refused : (e b : ℕ) (buffer : List ℕ) → toldOf (refusedBy (r .refusal)) buffer ≡ search m ts e b buffer
-  search-refused e b buffer = list-refused m ts e b buffer (r .refusal) (refusedBy (r .refusal)) (soundnessOf m ts) refl (sym (refused-answer m ts (r .refusal) x (scan-refused s x))) refl
+  search-refused e b buffer = list-refused m ts e b buffer (r .refusal) (refusedBy (r .refusal)) (NotSound (r .refusal)) (refused-answer m ts (r .refusal) x (scan-refused s x)) refl refl
 
   -- the checker tells it
   pub checked-refused : (t : List ℕ) → checkedAs (Refused (r .refusal)) ≡ check m ts t

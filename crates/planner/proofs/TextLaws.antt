@@ -18,9 +18,10 @@ use Rattle.tasks.specs.declared.Slots.{Slots}
 use Rattle.tasks.specs.declared.Soundness.{Soundness}
 use Rattle.tasks.specs.declared.Soundness.the-variants.{Sound, Refused}
 use Rattle.tasks.specs.Task.{rows}
-use Rattle.tasks.specs.Refusal.{refusal, tableLength, soundnessOf, IsSound}
+use Rattle.tasks.specs.Refusal.{refusal, tableLength, testedAs, tested, IsSound}
 use Rattle.tasks.proofs.NumberLaws.{rows-back}
-use Rattle.tasks.proofs.SoundLaws.{next-none, sound-list, soundness-sound, soundness-refused}
+use Rattle.tasks.proofs.SoundLaws.{next-none, sound-list}
+use Rattle.tasks.proofs.AnswerLaws.{tested-sound, tested-refused}
 use Rattle.rules.specs.Search.{Searched, toldUnless, searchRefusal, search}
 use Rattle.frames.specs.declared.Problem.{Problem}
 use Rattle.frames.specs.Read.{Read, refused, problem, readProblem, blankOf, told}
@@ -33,14 +34,14 @@ use Rattle.planner.specs.Answer.{sizeOf, searchAnswer, answerOf, answerT
 
 -- ---- the table's size
 -- of a sound list
-pub size-sound : (m : ℕ) (ts : List Task) (s : Soundness) (h : Slots) → s ≡ soundnessOf m ts → s ≡ Sound h → record { slots = h .0; m = m } ≡ sizeOf m ts
+pub size-sound : (m : ℕ) (ts : List Task) (s : Soundness) (h : Slots) → testedAs s ≡ tested m ts → s ≡ Sound h → record { slots = h .0; m = m } ≡ sizeOf m ts
 unfolding sizeOf
-size-sound m ts s h es eh = let k = soundness-sound m ts h (sym es ∙ eh) in rw (eq-eqb (refusal m ts) 0 (k .0)) (ap (λ n. record { slots = n; m = m }) (k .1))
+size-sound m ts s h es eh = let k = tested-sound m ts s es h eh in rw (eq-eqb (refusal m ts) 0 (k .0)) (ap (λ n. record { slots = n; m = m }) (k .1))
 
 -- of a list that is refused
-pub size-refused : (m : ℕ) (ts : List Task) (s : Soundness) (r : ℕ) → s ≡ soundnessOf m ts → s ≡ Refused r → record { slots = 0; m = 0 } ≡ sizeOf m ts
+pub size-refused : (m : ℕ) (ts : List Task) (s : Soundness) (r : ℕ) → testedAs s ≡ tested m ts → s ≡ Refused r → record { slots = 0; m = 0 } ≡ sizeOf m ts
 unfolding sizeOf
-size-refused m ts s r es er = let k = soundness-refused m r ts (sym es ∙ er) in rw (ne-eqb (refusal m ts) 0 (λ z. k .1 (k .0 ∙ z)))
+size-refused m ts s r es er = let k = tested-refused m ts s es r er in rw (ne-eqb (refusal m ts) 0 (λ z. k .1 (k .0 ∙ z)))
 
 -- ---- what is written
 -- two tests, the second of which passes

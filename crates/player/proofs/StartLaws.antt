@@ -21,9 +21,10 @@ use Rattle.tasks.specs.declared.Slots.{Slots}
 use Rattle.tasks.specs.declared.Soundness.{Soundness}
 use Rattle.tasks.specs.declared.Soundness.the-variants.{Sound, Refused}
 use Rattle.tasks.specs.Task.{task, taskAt, rows}
-use Rattle.tasks.specs.Refusal.{unless, orNext, refusal, tableLength, IsSound, soundnessOf}
+use Rattle.tasks.specs.Refusal.{unless, orNext, refusal, tableLength, IsSound, testedAs, tested}
 use Rattle.tasks.specs.Instance.{instanceOf}
-use Rattle.tasks.proofs.SoundLaws.{rows-length, rows-task, sound-list, soundness-sound, soundness-refused}
+use Rattle.tasks.proofs.SoundLaws.{rows-length, rows-task, sound-list}
+use Rattle.tasks.proofs.AnswerLaws.{tested-sound, tested-refused}
 use Rattle.table.specs.Fault.{Fault, checkedIf, check}
 use Rattle.checker.specs.declared.Verdict.{Verdict}
 use Rattle.checker.specs.declared.Verdict.the-variants.{Valid, Cell, Job, Refused as Told}
@@ -143,13 +144,13 @@ module _ (m : ℕ) (ts : List Task) (t : List ℕ) where
     unfolding afterStart recordOf
     start-slot v e z = rw (← e, z)
 
-module _ (list : TaskList) (m : ℕ) (t : List ℕ) (v : ℕ) (e : v ≡ startRefusal m (rows list) t) (z : v ≡ 0) (r : Soundness) (told : r ≡ soundnessOf m (rows list)) where
+module _ (list : TaskList) (m : ℕ) (t : List ℕ) (v : ℕ) (e : v ≡ startRefusal m (rows list) t) (z : v ≡ 0) (r : Soundness) (told : testedAs r ≡ tested m (rows list)) where
   -- the list of a start that is not refused is told as sound, and its record can be made
   pub startable : (h : Slots) → r ≡ Sound h → Startable list (h .0) m t
   startable h q =
       let s = start-sound m (rows list) t (sym e ∙ z) in
       let l = sound-list m (rows list) (s .0) in
-      let is = soundness-sound m (rows list) h (sym told ∙ q) .1 in
+      let is = tested-sound m (rows list) r told h q .1 in
       record {
         few-tasks = omega (arith, rows-length list, l .few-tasks);
         few-slots = omega (arith, l .few-slots);
@@ -160,7 +161,7 @@ module _ (list : TaskList) (m : ℕ) (t : List ℕ) (v : ℕ) (e : v ≡ startRe
 
   -- and never as refused
   pub not-told : (k : ℕ) → r ≡ Refused k → ⊥
-  not-told k q = let h = soundness-refused m k (rows list) (sym told ∙ q) in h .1 (h .0 ∙ start-sound m (rows list) t (sym e ∙ z) .0)
+  not-told k q = let h = tested-refused m (rows list) r told k q in h .1 (h .0 ∙ start-sound m (rows list) t (sym e ∙ z) .0)
 
 -- the answer of a start, by the first four cells of its record
 pub first-is : (p : Player) (v : ℕ) (x : Next) (s : Shown) → (v ≡ 0 → p .position ≡ 0) → x ≡ staysOf (p .last) (p .position) (p .age) v

@@ -14,10 +14,10 @@ use Rattle.tasks.specs.declared.Slots.{Slots}
 use Rattle.tasks.specs.declared.Task.{Task}
 use Rattle.tasks.specs.declared.Soundness.{Soundness}
 use Rattle.tasks.specs.declared.Soundness.the-variants.{Sound, Refused}
-use Rattle.tasks.specs.Refusal.{unless, tableLength, IsSound, soundnessOf}
+use Rattle.tasks.specs.Refusal.{unless, tableLength, IsSound, testedAs, tested}
 use Rattle.tasks.specs.Instance.{instanceOf}
-use Rattle.tasks.proofs.SoundLaws.{sound-list, soundness-sound, soundness-refused}
-use Rattle.tasks.proofs.AnswerLaws.{or-first, or-next}
+use Rattle.tasks.proofs.SoundLaws.{sound-list}
+use Rattle.tasks.proofs.AnswerLaws.{or-first, or-next, tested-sound, tested-refused}
 use Rattle.rules.specs.Search.{Searched, toldUnless, searchRefusal, search}
 use Rattle.rules.proofs.Told.{search-told}
 use Rattle.search.specs.declared.Answer.{Answer}
@@ -28,10 +28,6 @@ pub few-cells : (m : ℕ) (ts : List Task) (L : ℕ) → IsSound m ts → L ≡ 
 few-cells m ts L s e = let sound = sound-list m ts s in mul-le-mul {n₂ = 1024} {m₂ = 4} (omega arith) (sound .few-cores)
 
 -- ---- what the search answers
--- a list that is told sound
-pub told-sound : (m : ℕ) (ts : List Task) (L : Slots) (s : Soundness) → s ≡ soundnessOf m ts → s ≡ Sound L → IsSound m ts × (L .0 ≡ tableLength ts)
-told-sound m ts L s es el = soundness-sound m ts L (sym es ∙ el)
-
 -- the refusal k of an engine e, or of a buffer with too little room for n cells
 module _ (e room n : ℕ) where
   -- of the engine
@@ -70,20 +66,20 @@ module _ (m : ℕ) (ts : List Task) (e b : ℕ) (buffer : List ℕ) where
       go (suc k) s x = refl
 
   -- of the list
-  pub list-refused : (k : ℕ) (r : Answer) (s : Soundness) → s ≡ soundnessOf m ts → s ≡ Refused k → r ≡ refusedBy k → toldOf r buffer ≡ search m ts e b buffer
+  pub list-refused : (k : ℕ) (r : Answer) (s : Soundness) → testedAs s ≡ tested m ts → s ≡ Refused k → r ≡ refusedBy k → toldOf r buffer ≡ search m ts e b buffer
   unfolding searchRefusal
-  list-refused k r s es ek er = let h = soundness-refused m k ts (sym es ∙ ek) in refused-by k r er (h .1) (or-first _ _ _ (h .0) (h .1))
+  list-refused k r s es ek er = let h = tested-refused m ts s es k ek in refused-by k r er (h .1) (or-first _ _ _ (h .0) (h .1))
 
-  module _ (L : Slots) (s : Soundness) (es : s ≡ soundnessOf m ts) (el : s ≡ Sound L) (k : ℕ) (ek : k ≡ callRefusal e (length buffer) (L .0 * m)) where
+  module _ (L : Slots) (s : Soundness) (es : testedAs s ≡ tested m ts) (el : s ≡ Sound L) (k : ℕ) (ek : k ≡ callRefusal e (length buffer) (L .0 * m)) where
     -- of the engine or of the buffer
     pub call-refused : (r : Answer) → k ≢ 0 → r ≡ refusedBy k → toldOf r buffer ≡ search m ts e b buffer
     unfolding searchRefusal callRefusal instanceOf
-    call-refused r x er = let told = told-sound m ts L s es el in refused-by k r er x (or-next _ _ _ _ refl (told .0) (rw (← told .1) ek))
+    call-refused r x er = let told = tested-sound m ts s es L el in refused-by k r er x (or-next _ _ _ _ refl (told .0) (rw (← told .1) ek))
 
     -- no refusal
     pub walk-answer : (x : Searched) → k ≡ 0 → x ≡ walkTold m ts e b buffer → x ≡ search m ts e b buffer
     unfolding walkTold instanceOf
     walk-answer x z h =
-        let told = told-sound m ts L s es el in
+        let told = tested-sound m ts s es L el in
         let may = not-refused e (length buffer) (L .0 * m) k ek z in
         h ∙ sym (search-told m ts e b buffer (told .0) (may .0) (omega (arith, may .1, ap (λ n. n * m) (told .1))))

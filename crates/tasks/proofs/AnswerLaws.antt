@@ -1,12 +1,12 @@
--- What each answer of the code is by the definitions: tests of ranges and rates, refusals and lengths.
+-- What each answer of the code is by the definitions: tests of ranges and rates, refusals and lengths; and what the answer of a list says.
 -- Assumes nothing.
-use Prim.Native.Nat.{ℕ, suc, _+_, _≤_, _<_}
+use Prim.Native.Nat.{ℕ, zero, suc, _+_, _≤_, _<_}
 use mathlib.Core.Path.{_≡_, refl, sym, ap, _∙_, subst}
 use mathlib.Core.Logic.{_≢_}
 use mathlib.Core.Bool.{Bool, true, false, cond, not, _&&_}
 use mathlib.Core.List.{List}
 use native.Mathlib.Omega.{arith}
-use lib.Dec.{T, leb, eqb, le→leb}
+use lib.Dec.{T, leb, le→leb}
 use lib.ListN.{length}
 use borrow.Author.Tests.{lt-ltb, le-ltb, le-leb, lt-leb, eq-eqb, ne-eqb, not-true, not-false}
 use Rattle.laws.specs.Lists.{nth}
@@ -20,9 +20,10 @@ use Rattle.tasks.specs.declared.Task.{Task}
 use Rattle.tasks.specs.declared.TaskList.{TaskList}
 use Rattle.tasks.specs.declared.Length.{Length}
 use Rattle.tasks.specs.declared.Length.the-variants.{Fits, TooLong}
+use Rattle.tasks.specs.declared.Soundness.{Soundness}
 use Rattle.tasks.specs.declared.Soundness.the-variants.{Sound, Refused}
 use Rattle.tasks.specs.Task.{task, taskAt, rows}
-use Rattle.tasks.specs.Refusal.{mostRate, periodAt, within, unless, orNext, ratesFit, taskRefusal, listRefusal, tableLength, refusal, fitsIf, lengthOf, soundIf, soundnessOf, Periods}
+use Rattle.tasks.specs.Refusal.{mostRate, periodAt, within, unless, orNext, ratesFit, taskRefusal, listRefusal, tableLength, refusal, IsSound, fitsIf, lengthOf, sound, refused, testedAs, testedIf, tested, Periods}
 use Rattle.tasks.proofs.SoundLaws.{rows-length, rows-task, rates-at, within-is, list-range}
 
 -- ---- ranges and rates
@@ -169,11 +170,35 @@ length-refused ts x e f = go (leb (tableLength ts) 1024) (sym e ∙ f)
     go false e = refl
 
 -- a list that is not refused
-pub sound-answer : (m : ℕ) (ts : List Task) (h : Slots) → 0 ≡ refusal m ts → h .0 ≡ tableLength ts → Sound h ≡ soundnessOf m ts
-unfolding soundnessOf
-sound-answer m ts h e l = ap (λ x. Sound (record { 0 = x })) l ∙ ap (λ y. soundIf (eqb y 0) y (tableLength ts)) e
+pub sound-answer : (m : ℕ) (ts : List Task) (h : Slots) → 0 ≡ refusal m ts → h .0 ≡ tableLength ts → testedAs (Sound h) ≡ tested m ts
+unfolding testedAs tested
+sound-answer m ts h e l = ap sound l ∙ ap (λ k. testedIf k (tableLength ts)) e
 
 -- one that is
-pub refused-answer : (m : ℕ) (ts : List Task) (r : ℕ) → r ≢ 0 → r ≡ refusal m ts → Refused r ≡ soundnessOf m ts
-unfolding soundnessOf
-refused-answer m ts r x e = ap (λ b. soundIf b r (tableLength ts)) (sym (ne-eqb r 0 x)) ∙ ap (λ y. soundIf (eqb y 0) y (tableLength ts)) e
+pub refused-answer : (m : ℕ) (ts : List Task) (r : ℕ) → r ≢ 0 → r ≡ refusal m ts → testedAs (Refused r) ≡ tested m ts
+unfolding testedAs tested
+refused-answer m ts r x e = go r x ∙ ap (λ k. testedIf k (tableLength ts)) e
+  where
+    go : (r : ℕ) → r ≢ 0 → refused r ≡ testedIf r (tableLength ts)
+    go zero x = absurd (x refl)
+    go (suc r) x = refl
+
+-- ---- what the answer of a list says
+module _ (m : ℕ) (ts : List Task) (s : Soundness) (e : testedAs s ≡ tested m ts) where
+  -- a list that is told as sound is so, with its table's length
+  pub tested-sound : (h : Slots) → s ≡ Sound h → IsSound m ts × (h .0 ≡ tableLength ts)
+  unfolding testedAs tested
+  tested-sound h q = go (refusal m ts) (sym (ap testedAs q) ∙ e)
+    where
+      go : (r : ℕ) → sound (h .0) ≡ testedIf r (tableLength ts) → (r ≡ 0) × (h .0 ≡ tableLength ts)
+      go zero e = (refl, cc)
+      go (suc r) e = let z : _≡_ {A = ℕ} 0 1 = cc in absurd (omega arith)
+
+  -- the number that is told of a list refuses it
+  pub tested-refused : (k : ℕ) → s ≡ Refused k → (k ≡ refusal m ts) × (k ≢ 0)
+  unfolding testedAs tested
+  tested-refused k q = go (refusal m ts) (sym (ap testedAs q) ∙ e)
+    where
+      go : (r : ℕ) → refused k ≡ testedIf r (tableLength ts) → (k ≡ r) × (k ≢ 0)
+      go zero e = let z : _≡_ {A = ℕ} 0 1 = cc in absurd (omega arith)
+      go (suc r) e = let is : k ≡ suc r = cc in (is, λ z. omega arith)

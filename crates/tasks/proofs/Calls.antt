@@ -1,11 +1,9 @@
 -- What a call of each public function ensures, as its contract says, and that it leaves one answer.
 -- Assumes nothing.
 use Prim.Native.Nat.{ℕ}
-use native.Mathlib.Decide.{ℕ-discrete}
-use native.Mathlib.Omega.{arith}
-use mathlib.Core.Path.{_≡_, refl, sym, _∙_}
+use mathlib.Core.Path.{_≡_, refl}
 use mathlib.Core.Logic.{_≢_}
-use Rattle.laws.proofs.Only.{Says, only}
+use Rattle.laws.proofs.Only.{Says, only, only-told}
 use Rattle.tasks.specs.declared.Slots.{Slots}
 use Rattle.tasks.specs.declared.Work.{Work}
 use Rattle.tasks.specs.declared.Task.{Task}
@@ -13,8 +11,8 @@ use Rattle.tasks.specs.declared.TaskList.{TaskList}
 use Rattle.tasks.specs.declared.Soundness.{Soundness}
 use Rattle.tasks.specs.declared.Soundness.the-variants.{Sound, Refused}
 use Rattle.tasks.specs.Task.{workIn, taskAt, rows, added}
-use Rattle.tasks.specs.Refusal.{taskRefusal, tableLength, refusal, IsSound, soundnessOf}
-use Rattle.tasks.proofs.AnswerLaws.{sound-answer, refused-answer}
+use Rattle.tasks.specs.Refusal.{taskRefusal, tableLength, refusal, IsSound, Tested, sound, refused, testedAs, tested}
+use Rattle.tasks.proofs.AnswerLaws.{tested-sound, tested-refused}
 use Rattle.tasks.proofs.work_in as work-in
 use Rattle.tasks.proofs.task_at as task-at
 use Rattle.tasks.proofs.add_task as add-task
@@ -53,25 +51,30 @@ pub task-refusal-only : (t : Task) (m r r′ : ℕ) → TaskRefusal t m r → Ta
 task-refusal-only t m r r′ = only
 
 -- ---- test_list
+-- the answer from what is told
+answerOf : Tested → Soundness
+answerOf (sound h) = Sound (record { 0 = h })
+answerOf (refused number) = Refused number
+
+-- is the answer
+answer-of : (r : Soundness) → answerOf (testedAs r) ≡ r
+unfolding testedAs answerOf
+answer-of (Sound h) = refl
+answer-of (Refused number) = refl
+
 abbrev pub TestList : TaskList → ℕ → Soundness → Type 0
-TestList list m r = r ≡ soundnessOf m (rows list)
+TestList list m r = testedAs r ≡ tested m (rows list)
 
 test-list-says : (κs list m list′ m′ r : _) → Says (λ M 𝓤 H A mem run. test-list.ensures-1 𝓤 H κs A mem run list m list′ m′ r) (TestList list m r)
 test-list-says κs list m list′ m′ r M 𝓤 H A mem run = refl
 
 pub test-list-only : (list : TaskList) (m : ℕ) (r r′ : Soundness) → TestList list m r → TestList list m r′ → r ≡ r′
-test-list-only list m r r′ = only
+test-list-only list m r r′ = only-told testedAs answerOf answer-of
 
--- the cases by 01's numbers: sound, none of 1 to 8 refuses the list, and H slots
+-- the cases: sound, none of 1 to 8 refuses the list, and H slots
 pub test-list-sound : (list : TaskList) (m : ℕ) (h : Slots) → TestList list m (Sound h) → IsSound m (rows list) × (h .0 ≡ tableLength (rows list))
-test-list-sound list m h e = elim (ℕ-discrete (refusal m (rows list)) 0) [
-  | yes z ↦ let q : Sound h ≡ Sound (record { 0 = tableLength (rows list) }) = e ∙ sym (sound-answer m (rows list) _ (sym z) refl) in (z, cc)
-  | no x ↦ let q : Sound h ≡ Refused (refusal m (rows list)) = e ∙ sym (refused-answer m (rows list) _ x refl) in let w : _≡_ {A = ℕ} 0 1 = cc in absurd (omega arith)
-]
+test-list-sound list m h e = tested-sound m (rows list) (Sound h) e h refl
 
 -- refused, by that number
 pub test-list-refused : (list : TaskList) (m k : ℕ) → TestList list m (Refused k) → (k ≡ refusal m (rows list)) × (k ≢ 0)
-test-list-refused list m k e = elim (ℕ-discrete (refusal m (rows list)) 0) [
-  | yes z ↦ let q : Refused k ≡ Sound (record { 0 = tableLength (rows list) }) = e ∙ sym (sound-answer m (rows list) _ (sym z) refl) in let w : _≡_ {A = ℕ} 0 1 = cc in absurd (omega arith)
-  | no x ↦ let q : Refused k ≡ Refused (refusal m (rows list)) = e ∙ sym (refused-answer m (rows list) _ x refl) in let w : k ≡ refusal m (rows list) = cc in (w, λ z. x (sym w ∙ z))
-]
+test-list-refused list m k e = tested-refused m (rows list) (Refused k) e k refl

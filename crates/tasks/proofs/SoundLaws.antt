@@ -6,7 +6,7 @@ use mathlib.Core.Logic.{_≢_}
 use mathlib.Core.Bool.{Bool, true, false, cond}
 use mathlib.Core.List.{List}
 use native.Mathlib.Omega.{arith}
-use lib.Dec.{T, leb, ltb, eqb, leb→le, eqb·suc-zero}
+use lib.Dec.{T, leb, ltb, leb→le, eqb·suc-zero}
 use lib.ListN.{length}
 use borrow.Author.Tests.{le-ltb}
 use Rattle.laws.specs.Lists.{nth}
@@ -14,13 +14,11 @@ use Rattle.laws.specs.Lcm.{IsLcms}
 use Rattle.laws.proofs.ListLaws.{tab-length, tab-at, first-zero}
 use Rattle.laws.proofs.TestLaws.{all-at}
 use Rattle.laws.proofs.LcmLaws.{lcms-of, lcms-divides, dvd-whole}
-use Rattle.tasks.specs.declared.Slots.{Slots}
 use Rattle.tasks.specs.declared.Rates.{Rates}
 use Rattle.tasks.specs.declared.Task.{Task}
 use Rattle.tasks.specs.declared.TaskList.{TaskList}
-use Rattle.tasks.specs.declared.Soundness.the-variants.{Sound, Refused}
 use Rattle.tasks.specs.Task.{rate, noTask, task, taskAt, rows}
-use Rattle.tasks.specs.Refusal.{mostRate, periodAt, within, unless, orNext, ratesFit, taskRefusal, listRefusal, tableLength, refusal, IsSound, soundIf, soundnessOf}
+use Rattle.tasks.specs.Refusal.{mostRate, periodAt, within, unless, orNext, ratesFit, taskRefusal, listRefusal, tableLength, refusal, IsSound}
 use Rattle.tasks.specs.Window.{Cyclic}
 use Rattle.tasks.specs.Instance.{instanceOf, Regular}
 use Rattle.tasks.proofs.WindowLaws.{both, job-lt}
@@ -167,22 +165,3 @@ module _ {m : ℕ} {ts : List Task} (s : SoundList m ts) where
     some-slot = w .some-slot;
     job-there = λ i t x l k. job-lt (sound-cyclic w i x l) (task ts i .offset .0) t;
   }
-
--- ---- what the answer says
--- a list that is answered as sound is so, with its table's length
-pub soundness-sound : (m : ℕ) (ts : List Task) (h : Slots) → soundnessOf m ts ≡ Sound h → IsSound m ts × (h .0 ≡ tableLength ts)
-unfolding soundnessOf
-soundness-sound m ts h = go (refusal m ts) (tableLength ts)
-  where
-    go : (r l : ℕ) → soundIf (eqb r 0) r l ≡ Sound h → (r ≡ 0) × (h .0 ≡ l)
-    go zero l e = (refl, cc)
-    go (suc r) l e = let z : _≡_ {A = ℕ} 0 1 = cc (eqb·suc-zero r) in absurd (omega arith)
-
--- a refusal that is answered is that of the list
-pub soundness-refused : (m r : ℕ) (ts : List Task) → soundnessOf m ts ≡ Refused r → (r ≡ refusal m ts) × (r ≢ 0)
-unfolding soundnessOf
-soundness-refused m r ts = go (refusal m ts) (tableLength ts)
-  where
-    go : (x l : ℕ) → soundIf (eqb x 0) x l ≡ Refused r → (r ≡ x) × (r ≢ 0)
-    go zero l e = let z : _≡_ {A = ℕ} 0 1 = cc in absurd (omega arith)
-    go (suc x) l e = let q : r ≡ suc x = cc (eqb·suc-zero x) in (q, λ z. omega arith)

@@ -1,6 +1,6 @@
 -- Refusals 1 to 8, in 01's order; 0 where there is none.
 -- Assumes nothing.
-use Prim.Native.Nat.{ℕ, suc, _≤_, _<_}
+use Prim.Native.Nat.{ℕ, zero, suc, _≤_, _<_}
 use mathlib.Core.Path.{_≡_}
 use mathlib.Core.Bool.{Bool, true, false, cond, _&&_}
 use mathlib.Core.List.{List}
@@ -80,14 +80,24 @@ fitsIf false h = TooLong
 unfoldable pub lengthOf : List Task → Length
 lengthOf ts = fitsIf (leb (tableLength ts) 1024) (tableLength ts)
 
--- what the code answers of a list: sound, with its table's length, or its refusal
-abbrev pub soundIf : Bool → ℕ → ℕ → Soundness
-soundIf true r h = Sound (record { 0 = h })
-soundIf false r h = Refused r
+-- what is told of a list: that it is sound, with H, or the number that refuses it
+pub data Tested : Type 0 where
+  sound : ℕ → Tested
+  refused : ℕ → Tested
 
--- that answer for a list and m cores
-unfoldable pub soundnessOf : ℕ → List Task → Soundness
-soundnessOf m ts = soundIf (eqb (refusal m ts) 0) (refusal m ts) (tableLength ts)
+-- the answer by 01's numbers
+unfoldable pub testedAs : Soundness → Tested
+testedAs (Sound h) = sound (h .0)
+testedAs (Refused number) = refused number
+
+-- the refusal, if it is not 0, else sound, with H
+abbrev pub testedIf : ℕ → ℕ → Tested
+testedIf zero h = sound h
+testedIf (suc k) h = refused (suc k)
+
+-- the test of a list on m cores
+unfoldable pub tested : ℕ → List Task → Tested
+tested m ts = testedIf (refusal m ts) (tableLength ts)
 
 -- each period is 1..1024
 abbrev pub Periods : List Task → Type 0

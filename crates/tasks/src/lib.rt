@@ -2,7 +2,7 @@
 ghost use mathlib.Core.Path.{_≡_};
 ghost use Prim.Native.Nat.{_≤_, _<_};
 ghost use Rattle.tasks.specs.Task.{taskAt, rows, added, workIn};
-ghost use Rattle.tasks.specs.Refusal.{within as withinOf, ratesFit, taskRefusal, listRefusal, Periods, lengthOf, soundnessOf};
+ghost use Rattle.tasks.specs.Refusal.{within as withinOf, ratesFit, taskRefusal, listRefusal, Periods, lengthOf, testedAs, tested};
 
 // A number of slots of time.
 pub struct Slots(pub u16);
@@ -212,7 +212,7 @@ pub enum Soundness {
 
 // Refusals 1 to 8, in 01's order.
 pub fn test_list(list: TaskList, m: u8) -> Soundness
-    ensures { λ r. ⌜ r ≡ soundnessOf m (rows list) ⌝ }
+    ensures { λ r. ⌜ testedAs r ≡ tested m (rows list) ⌝ }
 {
     if !within(1, MAX_TASKS as u16, list.n as u16) {
         return Soundness::Refused(BAD_COUNT);

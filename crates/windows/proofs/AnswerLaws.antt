@@ -1,14 +1,17 @@
--- What each answer of the code is by the definitions.
+-- What each answer of the code is by the definitions, and what an answer says.
 -- Assumes nothing.
 use Prim.Native.Nat.{ℕ, _/_, _%_}
 use mathlib.Core.Path.{_≡_, sym, ap, _∙_}
 use mathlib.Core.Bool.{Bool, true, false}
 use lib.Dec.{ltb}
+use Rattle.laws.specs.Sum.{gate}
 use Rattle.tasks.specs.declared.Task.{Task}
 use Rattle.tasks.specs.Window.{place, isOpen, jobAt}
+use Rattle.windows.specs.declared.Window.{Window}
 use Rattle.windows.specs.declared.Window.the-variants.{Open, Closed}
-use Rattle.windows.specs.Answer.{openIf, windowAt}
+use Rattle.windows.specs.Answer.{toldOf, inSlot}
 
+-- ---- what the code answers
 -- the test on a place p
 pub open-at : (L O D T t p : ℕ) → p ≡ place L O t → ltb (p % T) D ≡ isOpen L O D T t
 open-at L O D T t p e = ap (λ x. ltb (x % T) D) e
@@ -19,11 +22,27 @@ job-at L O T t p e = ap (λ x. x / T) e
 
 module _ (L t : ℕ) (τ : Task) (b : Bool) (e : b ≡ isOpen L (τ .offset .0) (τ .deadline .0) (τ .period .0) t) where
   -- what is told of an open task
-  pub window-open : b ≡ true → (job : ℕ) → job ≡ jobAt L (τ .offset .0) (τ .period .0) t → Open job ≡ windowAt L τ t
-  unfolding windowAt
-  window-open h job ej = ap Open ej ∙ ap (λ x. openIf x (jobAt L (τ .offset .0) (τ .period .0) t)) (sym h ∙ e)
+  pub window-open : b ≡ true → (job : ℕ) → job ≡ jobAt L (τ .offset .0) (τ .period .0) t → toldOf (Open job) ≡ inSlot L τ t
+  unfolding toldOf inSlot gate
+  window-open h job ej = rw (← e, h, ej)
 
   -- and of a closed one
-  pub window-closed : b ≡ false → Closed ≡ windowAt L τ t
-  unfolding windowAt
-  window-closed h = ap (λ x. openIf x (jobAt L (τ .offset .0) (τ .period .0) t)) (sym h ∙ e)
+  pub window-closed : b ≡ false → toldOf Closed ≡ inSlot L τ t
+  unfolding toldOf inSlot gate
+  window-closed h = rw (← e, h)
+
+-- ---- what the answer w says
+module _ (L t : ℕ) (τ : Task) (w : Window) (e : toldOf w ≡ inSlot L τ t) where
+  -- open: for the job at t
+  pub told-open : (k : ℕ) → w ≡ Open k
+      → (isOpen L (τ .offset .0) (τ .deadline .0) (τ .period .0) t ≡ true) × (k ≡ jobAt L (τ .offset .0) (τ .period .0) t)
+  unfolding toldOf inSlot gate
+  told-open k q =
+      let told : toldOf (Open k) ≡ inSlot L τ t = sym (ap toldOf q) ∙ e in
+      let here = sym (ap (λ x. x .opens) told) in
+      (here, ap (λ x. x .job) told ∙ ap (λ b. gate b (jobAt L (τ .offset .0) (τ .period .0) t)) here)
+
+  -- closed
+  pub told-closed : w ≡ Closed → isOpen L (τ .offset .0) (τ .deadline .0) (τ .period .0) t ≡ false
+  unfolding toldOf inSlot
+  told-closed q = sym (ap (λ x. x .opens) (sym (ap toldOf q) ∙ e))

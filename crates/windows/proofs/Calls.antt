@@ -1,20 +1,17 @@
 -- What a call of each public function ensures, as its contract says, and that it leaves one answer.
 -- Assumes nothing.
-use Prim.Native.Nat.{ℕ, _%_}
-use native.Mathlib.Omega.{arith}
-use mathlib.Core.Path.{_≡_, refl, sym, ap, _∙_}
-use mathlib.Core.Logic.{⊎-elim}
+use Prim.Native.Nat.{ℕ}
+use mathlib.Core.Path.{_≡_, refl, ap}
 use mathlib.Core.Bool.{Bool, true, false}
-use borrow.Author.Tests.{lt-ltb, le-ltb}
-use Rattle.laws.proofs.SumLaws.{lt-or-ge}
-use Rattle.laws.proofs.Only.{Says, only}
+use lib.Dec.{lt→ltb, ltb→lt}
+use Rattle.laws.proofs.Only.{Says, only, only-told}
 use Rattle.tasks.specs.declared.Slots.{Slots}
 use Rattle.tasks.specs.declared.Task.{Task}
-use Rattle.tasks.specs.Window.{place, jobAt, IsOpen, isOpen, lastSlot}
+use Rattle.tasks.specs.Window.{jobAt, IsOpen, isOpen, lastSlot}
 use Rattle.windows.specs.declared.Window.{Window}
 use Rattle.windows.specs.declared.Window.the-variants.{Open, Closed}
-use Rattle.windows.specs.Answer.{windowAt}
-use Rattle.windows.proofs.AnswerLaws.{window-open, window-closed}
+use Rattle.windows.specs.Answer.{toldOf, inSlot}
+use Rattle.windows.proofs.AnswerLaws.{told-open, told-closed}
 use Rattle.windows.proofs.is_open as is-open
 use Rattle.windows.proofs.job_at as job-at
 use Rattle.windows.proofs.open_in as open-in
@@ -43,31 +40,38 @@ pub job-at-only : (len : Slots) (t : Task) (slot : Slots) (r r′ : ℕ) → Job
 job-at-only len t slot r r′ = only
 
 -- ---- open_in
+-- the answer from what is told
+answerIf : Bool → ℕ → Window
+answerIf true job = Open job
+answerIf false job = Closed
+
+-- is the answer
+answer-if : (r : Window) → answerIf (toldOf r .opens) (toldOf r .job) ≡ r
+unfolding toldOf answerIf
+answer-if (Open job) = refl
+answer-if Closed = refl
+
 abbrev pub OpenIn : Slots → Task → Slots → Window → Type 0
-OpenIn len t slot r = r ≡ windowAt (len .0) t (slot .0)
+OpenIn len t slot r = toldOf r ≡ inSlot (len .0) t (slot .0)
 
 open-in-says : (κs len t slot len′ t′ slot′ r : _)
     → Says (λ M 𝓤 H A mem run. open-in.ensures-1 𝓤 H κs A mem run len t slot len′ t′ slot′ r) (OpenIn len t slot r)
 open-in-says κs len t slot len′ t′ slot′ r M 𝓤 H A mem run = refl
 
 pub open-in-only : (len : Slots) (t : Task) (slot : Slots) (r r′ : Window) → OpenIn len t slot r → OpenIn len t slot r′ → r ≡ r′
-open-in-only len t slot r r′ = only
+open-in-only len t slot r r′ = only-told toldOf (λ x. answerIf (x .opens) (x .job)) answer-if
 
 -- the cases: open, with the job's number
 pub open-in-open : (len : Slots) (t : Task) (slot : Slots) (k : ℕ) → OpenIn len t slot (Open k)
     → IsOpen (len .0) (t .offset .0) (t .deadline .0) (t .period .0) (slot .0) × (k ≡ jobAt (len .0) (t .offset .0) (t .period .0) (slot .0))
-open-in-open len t slot k e = ⊎-elim
-    (λ l. let q : Open k ≡ Open (jobAt (len .0) (t .offset .0) (t .period .0) (slot .0)) = e ∙ sym (window-open (len .0) (slot .0) t true (sym (lt-ltb _ _ l)) refl _ refl) in (l, cc))
-    (λ g. let q : Open k ≡ Closed = e ∙ sym (window-closed (len .0) (slot .0) t false (sym (le-ltb _ _ g)) refl) in let w : _≡_ {A = ℕ} 0 1 = cc in absurd (omega arith))
-    (lt-or-ge (place (len .0) (t .offset .0) (slot .0) % t .period .0) (t .deadline .0))
+open-in-open len t slot k e =
+    let told = told-open (len .0) (slot .0) t (Open k) e k refl in
+    (ltb→lt _ _ (rw (told .0) tt), told .1)
 
 -- and closed
 pub open-in-closed : (len : Slots) (t : Task) (slot : Slots) → OpenIn len t slot Closed
     → IsOpen (len .0) (t .offset .0) (t .deadline .0) (t .period .0) (slot .0) → ⊥
-open-in-closed len t slot e l =
-    let q : Closed ≡ Open (jobAt (len .0) (t .offset .0) (t .period .0) (slot .0)) = e ∙ sym (window-open (len .0) (slot .0) t true (sym (lt-ltb _ _ l)) refl _ refl) in
-    let w : _≡_ {A = ℕ} 0 1 = cc in
-    omega arith
+open-in-closed len t slot e l = rw (told-closed (len .0) (slot .0) t Closed e refl) at (lt→ltb _ _ l)
 
 -- ---- last_slot
 abbrev pub LastSlot : Slots → Task → ℕ → Slots → Type 0

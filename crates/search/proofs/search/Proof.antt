@@ -2,16 +2,17 @@
 -- Assumes nothing.
 use native.Mathlib.Omega.{arith}
 use borrow.Author.Needs.{needs}
-use Rattle.search.proofs.AnswerLaws.{few-cells, list-refused, told-sound, not-refused, call-refused, walk-answer}
+use Rattle.tasks.proofs.AnswerLaws.{tested-sound}
+use Rattle.search.proofs.AnswerLaws.{few-cells, list-refused, not-refused, call-refused, walk-answer}
 use Rattle.search.proofs.search.Statement.{statement}
 use Rattle.search.proofs.search.Tie as tie
 
 mul-call-refusal : tie.Need-mul-call-refusal
-mul-call-refusal c = let h = told-sound _ _ _ _ (c .before .before .before .before .test-list .ensures) (c .before .before .soundness2 .given .1) in omega (arith, few-cells _ _ _ (h .0) (h .1))
+mul-call-refusal c = let h = tested-sound _ _ _ (c .before .before .before .before .test-list .ensures) _ (c .before .before .soundness2 .given .1) in omega (arith, few-cells _ _ _ (h .0) (h .1))
 
 walk-list-requires : tie.Need-walk-list-requires
 walk-list-requires c κs =
-    let h = told-sound _ _ _ _ (c .before .before .before .before .before .before .before .test-list .ensures) (c .before .before .before .before .before .soundness2 .given .1) in
+    let h = tested-sound _ _ _ (c .before .before .before .before .before .before .before .test-list .ensures) _ (c .before .before .before .before .before .soundness2 .given .1) in
     (h .0, h .1, not-refused _ _ _ _ (c .before .before .call-refusal .ensures) (c .before .if1 .taken) .1)
 
 returns : tie.Need-returns
