@@ -4,14 +4,14 @@ use Prim.Native.Nat.{ℕ}
 use mathlib.Core.Path.{_≡_, refl}
 use mathlib.Core.List.{List, [], _∷_}
 use Rattle.laws.specs.Sum.{gate}
-use Rattle.laws.specs.Lists.{tab}
+use Rattle.laws.specs.Lists.{tabFrom}
 use Rattle.lines.specs.Lines.{hexOf, digits, lineOf}
 use Rattle.answer.specs.Write.{verdictFrame, cellAt, slotFrame, slotLines, writeAnswer}
 use Rattle.lines.proofs.Text.{bytes}
 
 -- what is written: verdict, tries, slots, cores and table
 writing : ℕ → ℕ → ℕ → ℕ → List ℕ → List ℕ
-unfolding gate tab bytes hexOf digits lineOf verdictFrame cellAt slotFrame slotLines writeAnswer
+unfolding gate tabFrom bytes hexOf digits lineOf verdictFrame cellAt slotFrame slotLines writeAnswer
 writing verdict tries H m table = writeAnswer verdict tries H m table
 
 -- the table of the example, and a refusal

@@ -9,7 +9,7 @@ use native.Mathlib.Omega.{arith}
 use native.Mathlib.Nat.{mod-lt, mul-le-mul}
 use lib.Dec.{T, leb, ltb, leb→le, ltb→lt, le→leb, lt→ltb}
 use Rattle.laws.specs.Tests.{every}
-use Rattle.laws.specs.Lists.{tab}
+use Rattle.laws.specs.Lists.{tabFrom}
 use Rattle.laws.proofs.TestLaws.{make-both, every-holds, holds-every}
 use Rattle.tasks.specs.Refusal.{within, unless}
 use Rattle.tasks.proofs.SoundLaws.{within-is}
@@ -143,5 +143,5 @@ module _ (x : Next) (m n : ℕ) (offsets : List ℕ) where
   pub answer-taken : (a b c d a' b' c' d' : ℕ) → x .verdict ≡ 0
       → a' ≡ cellOf m n (x .age) offsets 0 a → b' ≡ cellOf m n (x .age) offsets 1 b → c' ≡ cellOf m n (x .age) offsets 2 c → d' ≡ cellOf m n (x .age) offsets 3 d
       → _≡_ {A = Shown} (record { verdict = x .verdict; cells = a' ∷ b' ∷ c' ∷ d' ∷ []; missed = x .missed }) (answerOf x m n offsets (a ∷ b ∷ c ∷ d ∷ []))
-  unfolding answerOf tab
+  unfolding answerOf tabFrom
   answer-taken a b c d a' b' c' d' z ea eb ec ed = rw (z, ea, eb, ec, ed)

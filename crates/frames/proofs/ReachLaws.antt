@@ -11,7 +11,7 @@ use borrow.Author.Tests.{leb-true, eqb-true, eq-eqb, ne-eqb}
 use lib.Dec.{leb, eqb}
 use lib.ListN.{length, drop, length-append, drop-of-length-le}
 use lib.Seq.{slice}
-use Rattle.laws.specs.Lists.{nth, tab}
+use Rattle.laws.specs.Lists.{nth, tabFrom}
 use Rattle.tasks.specs.Task.{listOf}
 use Rattle.tasks.specs.Refusal.{unless}
 use Rattle.lines.specs.Frame.{filled}
@@ -63,7 +63,7 @@ module _ (text : List ℕ) (p : Problem) (last : List ℕ) (at to : ℕ) (R : Re
 
   module _ (frame : List ℕ) (passed : lineRefusal (lineAt text at to) ≡ 0) (g : frame ≡ filled lineBytes) where
     place-is : inPlace (nth last 0) (p .list .n) frame ≡ inPlace (nth (R .state .last) 0) (length (R .state .tasks)) lineBytes
-    unfolding inPlace filled tab listOf told
+    unfolding inPlace filled tabFrom listOf told
     place-is = rw (R .frame, R .held, g)
 
     -- refusal 24
@@ -95,7 +95,7 @@ module _ (text : List ℕ) (p : Problem) (last : List ℕ) (at to : ℕ) (R : Re
 module _ (text : List ℕ) (p : Problem) (last : List ℕ) (at : ℕ) (R : Reached text p last at) (l : length text ≤ at) where
   no-line : readLines start (lines text)
       ≡ orRead (unless (eqb (nth last 0) 7) 24 0) (said (R .state))
-  unfolding readLines lines filled tab
+  unfolding readLines lines filled tabFrom
   no-line = R .rest ∙ ap (λ s. readLines (R .state) (lines s)) (drop-of-length-le text l) ∙ rw (R .frame)
 
   -- 24 where there is no end

@@ -5,7 +5,7 @@ use mathlib.Core.Path.{_≡_, refl, ap, _∙_}
 use mathlib.Core.Logic.{_≢_}
 use mathlib.Core.List.{List, [], _∷_, _++_}
 use borrow.Author.Tests.{ne-eqb}
-use Rattle.laws.specs.Lists.{nth, tab}
+use Rattle.laws.specs.Lists.{nth, tabFrom}
 use Rattle.tasks.specs.declared.Task.{Task}
 use Rattle.tasks.specs.declared.TaskList.{TaskList}
 use Rattle.tasks.specs.Task.{listOf, added}
@@ -23,12 +23,12 @@ task-more ts l last frame e few = ap (λ x. added x (taskOf last frame)) e ∙ l
 module _ (s : State) (p : Problem) (frame f : List ℕ) (e : p ≡ heldBy s) (g : frame ≡ filled f) where
   pub cores-said : nth frame 0 ≡ 1
       → _≡_ {A = Problem} record { refusal = p .refusal; m = nth frame 1; list = p .list; engine = p .engine; limit = p .limit } (heldBy (taken s f))
-  unfolding taken filled tab told
+  unfolding taken filled tabFrom told
   cores-said k = let kind : nth f 0 ≡ 1 = rw g at k in rw (e, g, kind)
 
   pub task-said : (last : List ℕ) (τ : Task) (list : TaskList) → nth frame 0 ≡ 3 → last ≡ filled (s .last) → p .list .n < 16 → τ ≡ taskOf last frame → list ≡ added (p .list) τ
       → _≡_ {A = Problem} record { refusal = p .refusal; m = p .m; list = list; engine = p .engine; limit = p .limit } (heldBy (taken s f))
-  unfolding taken filled tab taskOf two told
+  unfolding taken filled tabFrom taskOf two told
   task-said last τ list k q few t h =
       let kind : nth f 0 ≡ 3 = rw g at k in
       let more = h ∙ ap (added (p .list)) t ∙ task-more (s .tasks) (p .list) last frame (ap (λ x. x .list) e) few in
@@ -36,10 +36,10 @@ module _ (s : State) (p : Problem) (frame f : List ℕ) (e : p ≡ heldBy s) (g 
 
   pub limit-said : (limit : ℕ) → nth frame 0 ≡ 4 → limit ≡ four frame 2
       → _≡_ {A = Problem} record { refusal = p .refusal; m = p .m; list = p .list; engine = nth frame 1; limit = limit } (heldBy (taken s f))
-  unfolding taken filled tab four two told
+  unfolding taken filled tabFrom four two told
   limit-said limit k h = let kind : nth f 0 ≡ 4 = rw g at k in rw (e, h, g, kind)
 
   pub nothing-said : nth frame 0 ≢ 1 → nth frame 0 ≢ 3 → nth frame 0 ≢ 4 → p ≡ heldBy (taken s f)
-  unfolding taken filled tab told
+  unfolding taken filled tabFrom told
   nothing-said a b c =
       e ∙ rw (ne-eqb (nth f 0) 1 (rw g at a), ne-eqb (nth f 0) 3 (rw g at b), ne-eqb (nth f 0) 4 (rw g at c))

@@ -10,28 +10,37 @@ use native.Mathlib.Numerals.{add-one}
 use native.Mathlib.Nat.{add-zero, zero-add}
 use lib.ListN.{length, take, drop, getD, set, replicate, length-set, length-append, length-drop, List·getD-append}
 use lib.Seq.{sets, getD-set-same, getD-set-other, getD-append-add, getD-drop, getD-take, length-take-le, ext-getD}
-use Rattle.laws.specs.Lists.{nth, tab, over, orLater, seek, firstOf, filled}
+use Rattle.laws.specs.Lists.{nth, tabFrom, tab, over, orLater, seek, firstOf, filled}
 use Rattle.laws.proofs.SumLaws.{gate-lt, gate-ge, lt-or-ge}
 
 module _ {A : Type 0} where
-  -- a list of n made from a rule has n places
+  -- a list made from a rule has as many places as are asked
+  from-length : (a n : ℕ) (g : ℕ → A) → length (tabFrom a n g) ≡ n
+  unfolding tabFrom
+  from-length a zero g = refl
+  from-length a (suc n) g = ap suc (from-length (suc a) n g)
+
   pub tab-length : (n : ℕ) (g : ℕ → A) → length (tab n g) ≡ n
-  unfolding tab
-  tab-length zero g = refl
-  tab-length (suc n) g = ap suc (tab-length n (λ k. g (suc k)))
+  tab-length = from-length 0
 
   -- and at each what the rule gives
-  pub tab-at : (n : ℕ) (g : ℕ → A) (k : ℕ) (a : A) → k < n → getD (tab n g) k a ≡ g k
-  unfolding tab
-  tab-at zero g k a l = absurd (omega arith)
-  tab-at (suc n) g zero a l = refl
-  tab-at (suc n) g (suc k) a l = tab-at n (λ j. g (suc j)) k a (omega arith)
+  from-at : (a n : ℕ) (g : ℕ → A) (k : ℕ) (x : A) → k < n → getD (tabFrom a n g) k x ≡ g (a + k)
+  unfolding tabFrom
+  from-at a zero g k x l = absurd (omega arith)
+  from-at a (suc n) g zero x l = ap g (sym (add-zero a))
+  from-at a (suc n) g (suc k) x l = from-at (suc a) n g k x (omega arith) ∙ ap g (omega arith)
+
+  pub tab-at : (n : ℕ) (g : ℕ → A) (k : ℕ) (x : A) → k < n → getD (tab n g) k x ≡ g k
+  tab-at n g k x l = from-at 0 n g k x l ∙ ap g (zero-add k)
 
   -- rules that agree below n make the same list
+  from-same : (a n : ℕ) (g h : ℕ → A) → ((k : ℕ) → k < a + n → g k ≡ h k) → tabFrom a n g ≡ tabFrom a n h
+  unfolding tabFrom
+  from-same a zero g h e = refl
+  from-same a (suc n) g h e = rw (e a (omega arith), from-same (suc a) n g h (λ k l. e k (omega arith)))
+
   pub tab-same : (n : ℕ) (g h : ℕ → A) → ((k : ℕ) → k < n → g k ≡ h k) → tab n g ≡ tab n h
-  unfolding tab
-  tab-same zero g h e = refl
-  tab-same (suc n) g h e = rw (e 0 (omega arith), tab-same n (λ k. g (suc k)) (λ k. h (suc k)) (λ k l. e (suc k) (omega arith)))
+  tab-same n g h e = from-same 0 n g h (λ k l. e k (omega arith))
 
 -- rules that agree below n find the same place
 pub seek-same : (n : ℕ) (g h : ℕ → ℕ) → ((k : ℕ) → k < n → g k ≡ h k) → seek n g ≡ seek n h
@@ -173,9 +182,12 @@ tab-take n s room = ext-getD 0 _ _ (tab-length n (nth s) ∙ sym (length-take-le
 
 -- n times the same
 pub tab-replicate : (n x : ℕ) → tab n (λ _. x) ≡ replicate n x
-unfolding tab
-tab-replicate zero x = refl
-tab-replicate (suc n) x = ap (λ s. x ∷ s) (tab-replicate n x)
+unfolding tabFrom
+tab-replicate n x = go 0 n
+  where
+    go : (a n : ℕ) → tabFrom a n (λ _. x) ≡ replicate n x
+    go a zero = refl
+    go a (suc n) = ap (λ s. x ∷ s) (go (suc a) n)
 
 -- ---- stores, and one more at the end
 -- a run of stores leaves what stands beside it

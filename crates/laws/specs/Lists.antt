@@ -10,10 +10,14 @@ use Rattle.laws.specs.Sum.{gate}
 abbrev pub nth : List ℕ → ℕ → ℕ
 nth s k = getD s k 0
 
+-- g a, g (a + 1), .., n of them
+unfoldable pub tabFrom : {A : Type 0} → ℕ → ℕ → (ℕ → A) → List A
+tabFrom a zero g = []
+tabFrom a (suc n) g = g a ∷ tabFrom (suc a) n g
+
 -- g 0, g 1, .., g (n - 1)
-unfoldable pub tab : {A : Type 0} → ℕ → (ℕ → A) → List A
-tab zero g = []
-tab (suc n) g = g 0 ∷ tab n (λ k. g (suc k))
+abbrev pub tab : {A : Type 0} → ℕ → (ℕ → A) → List A
+tab = tabFrom 0
 
 -- s written over the start of a list
 unfoldable pub over : List ℕ → List ℕ → List ℕ

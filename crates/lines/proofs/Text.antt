@@ -4,9 +4,9 @@ use Prim.Native.Nat.{ℕ}
 use Prim.Native.Char.{code}
 use Prim.Native.String.{String, len, charAt}
 use mathlib.Core.List.{List}
-use Rattle.laws.specs.Lists.{tab}
+use Rattle.laws.specs.Lists.{tabFrom, tab}
 
 -- the bytes of a text
 unfoldable pub bytes : String → List ℕ
-unfolding tab
+unfolding tabFrom
 bytes s = tab (len s) (λ i. code (charAt s i))

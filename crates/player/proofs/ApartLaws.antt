@@ -4,7 +4,7 @@ use Prim.Native.Nat.{ℕ, zero, suc, _+_, _≤_}
 use mathlib.Core.Path.{_≡_, refl, ap}
 use mathlib.Core.List.{[], _∷_}
 use native.Mathlib.Nat.{add-zero}
-use Rattle.laws.specs.Lists.{nth, tab}
+use Rattle.laws.specs.Lists.{nth, tabFrom}
 use Rattle.clock.specs.declared.Next.{Next}
 use Rattle.clock.specs.Clock.{stepRefusal, nextOf, answerOf}
 use Rattle.clock.proofs.StepLaws.{next-in}
@@ -15,7 +15,7 @@ module _ (p : Player) (tick : ℕ) where
   -- a step's answer, by its refusal
   answer-is : (v : ℕ) → v ≡ stepRefusal (p .last) (p .h) (p .position) (p .age) (p .m) (p .n) tick → let at = workedOut p tick .at in
       answerOf (workedOut p tick) (p .m) (p .n) (p .offsets) (nth (p .table) at ∷ nth (p .table) (at + 1) ∷ nth (p .table) (at + 2) ∷ nth (p .table) (at + 3) ∷ []) ≡ stepped p tick
-  unfolding nextOf answerOf stepped afterStep cellsOf tab
+  unfolding nextOf answerOf stepped afterStep cellsOf tabFrom
   answer-is zero e = rw (← e) (rw add-zero)
   answer-is (suc v) e = rw (← e)
 

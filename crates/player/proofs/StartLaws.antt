@@ -12,7 +12,7 @@ use lib.Dec.{T, ltb, leb→le, eqb·suc-zero}
 use lib.ListN.{length, set, replicate, length-set, length-replicate, getD-replicate}
 use lib.Seq.{ext-getD, getD-set-same, getD-set-other}
 use Rattle.laws.specs.Sum.{gate}
-use Rattle.laws.specs.Lists.{nth, tab}
+use Rattle.laws.specs.Lists.{nth, tabFrom, tab}
 use Rattle.laws.proofs.SumLaws.{lt-or-ge, gate-lt, gate-ge}
 use Rattle.laws.proofs.ListLaws.{tab-length, tab-at, tab-same}
 use Rattle.tasks.specs.declared.Task.{Task}
@@ -166,7 +166,7 @@ module _ (list : TaskList) (m : ℕ) (t : List ℕ) (v : ℕ) (e : v ≡ startRe
 -- the answer of a start, by the first four cells of its record
 pub first-is : (p : Player) (v : ℕ) (x : Next) (s : Shown) → (v ≡ 0 → p .position ≡ 0) → x ≡ staysOf (p .last) (p .position) (p .age) v
     → s ≡ answerOf x (p .m) (p .n) (p .offsets) (nth (p .table) 0 ∷ nth (p .table) 1 ∷ nth (p .table) 2 ∷ nth (p .table) 3 ∷ []) → s ≡ firstShown p v
-unfolding answerOf cellsOf tab
+unfolding answerOf cellsOf tabFrom
 first-is p zero x s h q e = e ∙ rw (q, h refl, zero-mul, zero-add)
 first-is p (suc v) x s h q e = e ∙ rw q
 

@@ -1,14 +1,14 @@
 -- `lent::refused` meets its contract: an empty list is 0 throughout.
 -- Assumes nothing.
 use mathlib.Core.Path.{refl}
-use Rattle.laws.specs.Lists.{tab}
+use Rattle.laws.specs.Lists.{tabFrom}
 use Rattle.tasks.specs.Task.{listOf}
 use Rattle.lent.specs.Scan.{refusedBy}
 use Rattle.lent.proofs.refused.Statement.{statement}
 use Rattle.lent.proofs.refused.Tie as tie
 
 returns : tie.Need-returns
-unfolding refusedBy listOf tab
+unfolding refusedBy listOf tabFrom
 returns c = refl
 
 pub refused-spec : {M : Type 1} → statement M

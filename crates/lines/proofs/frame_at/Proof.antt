@@ -6,7 +6,7 @@ use native.Mathlib.Omega.{arith}
 use borrow.Author.Needs.{needs}
 use lib.ListN.{take}
 use lib.Seq.{slice, length-slice}
-use Rattle.laws.specs.Lists.{tab}
+use Rattle.laws.specs.Lists.{tabFrom}
 use Rattle.lines.specs.Lines.{bytesOf}
 use Rattle.lines.specs.Frame.{filled}
 use Rattle.lines.proofs.LineLaws.{bytes-length, filled-more, filled-all, part-byte}
@@ -20,7 +20,7 @@ abbrev μ-loop : tie.MeasureT-loop
 μ-loop text from to count frame₀ k₀ frame k = count - k
 
 loop-holds : tie.Need-loop-holds Inv-loop μ-loop
-unfolding filled tab
+unfolding filled tabFrom
 loop-holds c = (omega arith, refl)
 
 loop-again : tie.Need-loop-again Inv-loop μ-loop

@@ -1,0 +1,89 @@
+-- Demand 2 over the calls that users make: verdicts exact both ways, the first table, the checker, and a table as a board plays it. The statements come first, then their proofs.
+-- Assumes nothing.
+use Prim.Native.Nat.{ℕ, suc, _^_, _≤_, _<_}
+use native.Mathlib.Omega.{arith}
+use native.Mathlib.Nat.{mul-le-mul}
+use mathlib.Core.Path.{_≡_, sym, ap, subst, _∙_}
+use mathlib.Core.Logic.{_≢_}
+use mathlib.Core.List.{List}
+use lib.ListN.{length, replicate, length-replicate}
+use Rattle.laws.specs.Lists.{nth, over}
+use Rattle.tasks.specs.declared.Task.{Task}
+use Rattle.tasks.specs.Task.{rate, task}
+use Rattle.tasks.specs.Refusal.{tableLength, IsSound}
+use Rattle.tasks.specs.Instance.{Instance, instanceOf, Regular}
+use Rattle.tasks.proofs.SoundLaws.{sound-list, length-whole, sound-cyclic}
+use Rattle.table.specs.Table.{cells, Table}
+use Rattle.table.proofs.TableLaws.{no-rate}
+use Rattle.rules.specs.Right.{ownInstance}
+use Rattle.rules.specs.Search.{Searched, walked, search}
+use Rattle.rules.proofs.Demand2.{Searches, searches}
+use Rattle.search.specs.declared.Answer.{Answer}
+use Rattle.search.specs.Told.{toldOf}
+use Rattle.frames.specs.Read.{problem, readProblem}
+use Rattle.answer.specs.Write.{writeAnswer}
+use Rattle.checker.specs.declared.Verdict.{Verdict}
+use Rattle.checker.specs.declared.Verdict.the-variants.{Valid}
+use Rattle.checker.specs.Checks.{toldOf as checkedAs}
+use Rattle.checker.proofs.Demand2.{Tells, answer-tells}
+use Rattle.clock.specs.declared.Shown.{Shown}
+use Rattle.clock.specs.Clock.{elapsedAt}
+use Rattle.player.specs.declared.Player.{Player}
+use Rattle.player.proofs.Demand2 as played
+use Rattle.player.proofs.Demand2.{Run, Keeps, Plays}
+use Rattle.planner.specs.Answer.{searchAnswer, answerOf}
+use Rattle.planner.proofs.Calls.{Plan, Check, Start, PlanText}
+use Rattle.demands.proofs.Demand1.{written-room}
+
+-- ---- statements
+-- a call of `plan_text` writes what a search s tells: 05 with its verdict and tries, the 06 lines for verdict 0, and 07
+pub record WritesAnswer (m : ℕ) (ts : List Task) (s : Searched) (out : List ℕ) (r : ℕ) (out′ : List ℕ) : Type 0 where
+  pub count : r ≡ length (writeAnswer (s .verdict) (s .tries) (tableLength ts) m (s .buffer))
+  pub holds : out′ ≡ over (writeAnswer (s .verdict) (s .tries) (tableLength ts) m (s .buffer)) out
+
+-- ---- proofs
+-- a call of `plan` on a sound list, by either engine, with any limit, into a buffer that is long enough
+pub plans : (ts : List Task) (m e b : ℕ) (t : List ℕ) (r : Answer) (t′ : List ℕ) → Plan ts m e b t r t′ → IsSound m ts → e ≤ 1 → cells (ownInstance m ts) ≤ length t
+    → Searches (ownInstance m ts) (walked e (ownInstance m ts)) b t (toldOf r t′)
+plans ts m e b t r t′ call sound engine room = subst (Searches (ownInstance m ts) (walked e (ownInstance m ts)) b t) (sym call) (searches m ts e b t sound engine room)
+
+-- a call of `check`, for every list, every number of cores and every table
+pub checks : (ts : List Task) (m : ℕ) (t : List ℕ) (r : Verdict) → Check ts m t r → Tells m ts t (checkedAs r)
+checks = answer-tells
+
+-- a list with a task of four zero rates: no table serves it
+pub unserved : (ts : List Task) (m i : ℕ) → IsSound m ts → i ≢ 0 → i ≤ length ts → ((j : ℕ) → j < 4 → rate (task ts i) j ≡ 0) → (t : List ℕ) → Table (ownInstance m ts) t → ⊥
+unfolding instanceOf
+unserved ts m i sound x l zeros t h =
+    let s = sound-list m ts sound in
+    no-rate (ownInstance m ts) (s .some-core) i 0 x l (sound-cyclic s (length-whole s) i x l .some-jobs) (s .in-range i x l .work-pos) (λ j k. zeros j (omega (arith, k, s .few-cores))) (nth t) (h .valid)
+
+-- the planning program's buffer has room for every table
+pub room : (m : ℕ) (ts : List Task) → IsSound m ts → cells (ownInstance m ts) ≤ length {A = ℕ} (replicate 4096 0)
+unfolding instanceOf
+room m ts sound = let s = sound-list m ts sound in rw (length-replicate {A = ℕ} 4096 0) (mul-le-mul {n₂ = 1024} {m₂ = 4} (s .few-slots) (s .few-cores))
+
+-- a call of `plan_text` with room for the longest answer writes what the search of the text's problem tells
+pub text-writes : (text out : List ℕ) (r : ℕ) (out′ : List ℕ) → PlanText text out r out′ → 15376 ≤ length out
+    → (m : ℕ) (ts : List Task) (e b : ℕ) → readProblem text ≡ problem m ts e b → WritesAnswer m ts (search m ts e b (replicate 4096 0)) out r out′
+unfolding answerOf searchAnswer
+text-writes text out r out′ call l m ts e b reads =
+    let w = written-room call l in record { count = w .0 ∙ ap (λ x. length (answerOf x)) reads; holds = w .1 ∙ ap (λ x. over (answerOf x) out) reads }
+
+-- where that has a sound list and engine 0 or 1, its verdict, tries and lines are as a search's must be
+pub text-plans : (text out : List ℕ) (r : ℕ) (out′ : List ℕ) → PlanText text out r out′ → 15376 ≤ length out
+    → (m : ℕ) (ts : List Task) (e b : ℕ) → readProblem text ≡ problem m ts e b → IsSound m ts → e ≤ 1
+    → (s : Searched) × Searches (ownInstance m ts) (walked e (ownInstance m ts)) b (replicate 4096 0) s × WritesAnswer m ts s out r out′
+text-plans text out r out′ call l m ts e b reads sound engine =
+    (search m ts e b (replicate 4096 0), searches m ts e b (replicate 4096 0) sound engine (room m ts sound), text-writes text out r out′ call l m ts e b reads)
+
+module _ (ts : List Task) (m : ℕ) (t : List ℕ) (p : Player) (tick : ℕ → ℕ) (n : ℕ) (shown : ℕ → Shown) (left : ℕ → Player)
+    (valid : Check ts m t Valid) (run : Run ts m t p tick n shown left) where
+  -- a table that `check` finds valid, played by a call of `start` with the lent tasks and n calls of `step` with every elapsed number 1:
+  -- each job from its first release gets exactly its work inside its own window
+  pub plays : ((s : ℕ) → s < n → elapsedAt tick s ≡ 1) → Plays m ts t n shown
+  plays = played.plays ts m t p tick n shown left valid run
+
+  -- the same with any elapsed numbers below 2^31
+  pub keeps : ((s : ℕ) → s < n → elapsedAt tick s < 2 ^ 31) → Keeps m ts t tick n shown left
+  keeps = played.keeps ts m t p tick n shown left valid run

@@ -1,0 +1,4 @@
+mod Cases
+mod Demand1
+mod Demand2
+mod Demand3
