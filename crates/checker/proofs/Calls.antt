@@ -5,6 +5,7 @@ use mathlib.Core.Path.{_≡_, refl}
 use mathlib.Core.List.{List}
 use denote.Ref.{now}
 use Rattle.laws.proofs.Only.{Says, only-told}
+use Rattle.tasks.specs.declared.Task.{Task}
 use Rattle.tasks.specs.declared.TaskList.{TaskList}
 use Rattle.tasks.specs.Task.{rows}
 use Rattle.table.specs.Fault.{noFault, inCell, inJob, Checked, refused, checked, check}
@@ -32,9 +33,13 @@ answer-of (Refused number) = refl
 pub told-only : {x : Checked} (r r′ : Verdict) → toldOf r ≡ x → toldOf r′ ≡ x → r ≡ r′
 told-only r r′ = only-told toldOf answerOf answer-of
 
+-- a call of the checker for the tasks ts, however they are handed over, answers r
+abbrev pub Checks : List Task → ℕ → List ℕ → Verdict → Type 0
+Checks ts m t r = toldOf r ≡ check m ts t
+
 -- ---- check_table
 abbrev pub CheckTable : TaskList → ℕ → List ℕ → Verdict → Type 0
-CheckTable list m t r = toldOf r ≡ check m (rows list) t
+CheckTable list = Checks (rows list)
 
 check-table-says : (κs list m table list′ m′ table′ r : _)
     → Says (λ M 𝓤 H A mem run. check-table.ensures-1 𝓤 H κs A mem run list m table list′ m′ table′ r) (CheckTable list m (now (table′ .entry)) r)

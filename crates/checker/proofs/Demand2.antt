@@ -10,8 +10,6 @@ use lib.ListN.{length}
 use Rattle.laws.specs.Lists.{nth}
 use Rattle.laws.proofs.SumLaws.{lt-or-ge}
 use Rattle.tasks.specs.declared.Task.{Task}
-use Rattle.tasks.specs.declared.TaskList.{TaskList}
-use Rattle.tasks.specs.Task.{rows}
 use Rattle.tasks.specs.Refusal.{refusal, tableLength, IsSound}
 use Rattle.tasks.specs.Instance.{Instance, instanceOf}
 use Rattle.tasks.proofs.SoundLaws.{sound-list}
@@ -21,7 +19,7 @@ use Rattle.checker.specs.declared.Verdict.{Verdict}
 use Rattle.checker.specs.Checks.{toldOf}
 use Rattle.checker.specs.Faulty.{FirstCell, FirstJob}
 use Rattle.checker.proofs.FaultLaws.{Says, named, faultless, none-valid, valid-none}
-use Rattle.checker.proofs.Calls.{CheckTable}
+use Rattle.checker.proofs.Calls.{Checks}
 use Rattle.checker.proofs.TellLaws.{check-refused, check-short, check-long}
 
 -- ---- statements
@@ -118,6 +116,6 @@ module _ (m : ℕ) (ts : List Task) (t : List ℕ) where
         (lt-or-ge (length t) (cells (planFor m ts)))
   ]
 
--- so does the answer of a call of `check_table`
-pub answer-tells : (list : TaskList) (m : ℕ) (t : List ℕ) (r : Verdict) → CheckTable list m t r → Tells m (rows list) t (toldOf r)
-answer-tells list m t r e = subst (Tells m (rows list) t) (sym e) (tells m (rows list) t)
+-- so does the answer of a call
+pub answer-tells : (ts : List Task) (m : ℕ) (t : List ℕ) (r : Verdict) → Checks ts m t r → Tells m ts t (toldOf r)
+answer-tells ts m t r e = subst (Tells m ts t) (sym e) (tells m ts t)

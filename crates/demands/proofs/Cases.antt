@@ -5,7 +5,7 @@ use mathlib.Core.Path.{_≡_, refl}
 use mathlib.Core.List.{List, [], _∷_, map}
 use lib.ListN.{replicate}
 use Rattle.laws.specs.Sum.{gate, sum}
-use Rattle.laws.specs.Lists.{tab, over, seek}
+use Rattle.laws.specs.Lists.{tabFrom, over, seek}
 use Rattle.laws.specs.Lcm.{euclid, gcdOf, lcmOf, lcmsOf}
 use Rattle.tasks.specs.declared.Task.{Task}
 use Rattle.tasks.specs.Refusal.{within, unless, orNext, ratesFit, taskRefusal, listRefusal, tableLength, refusal}
@@ -78,7 +78,7 @@ first = 4294967294
 
 -- what the definitions answer
 answer : Question → Reply
-unfolding reply blank steps first gate sum tab over seek euclid gcdOf lcmOf lcmsOf within unless orNext ratesFit taskRefusal listRefusal tableLength refusal place highest instanceOf
+unfolding reply blank steps first gate sum tabFrom over seek euclid gcdOf lcmOf lcmsOf within unless orNext ratesFit taskRefusal listRefusal tableLength refusal place highest instanceOf
     share done free kindOf cellKind workKind firstJob fault check walk tests permitted settled closed evenRates twin idleTried ruleA ruleB quickly
     told searchRefusal search stepRefusal nextOf cellsOf afterStep stepped padded recordOf started afterStart
 answer (searching m ts e b room) = reply (search m ts e b (replicate room 77))
@@ -160,7 +160,7 @@ cases = refl
 -- ---- from text to text
 -- the answer to a text
 answering : List ℕ → List ℕ
-unfolding gate sum tab over seek euclid gcdOf lcmOf lcmsOf within unless orNext ratesFit taskRefusal listRefusal tableLength refusal place highest instanceOf
+unfolding gate sum tabFrom over seek euclid gcdOf lcmOf lcmsOf within unless orNext ratesFit taskRefusal listRefusal tableLength refusal place highest instanceOf
     share done free walk tests permitted settled closed evenRates twin idleTried ruleA ruleB quickly told searchRefusal search
     bytes sortOf two-bytes four isDigit digitOf pairs bytesOf before lines mayFollow rightNumber inPlace taskOf taken lengthRefusal frameRefusal lineRefusal placeRefusal readLines readWithin
     hexOf digits lineOf verdictFrame cellAt slotFrame slotLines writeAnswer searchAnswer answerOf

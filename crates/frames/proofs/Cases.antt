@@ -5,7 +5,7 @@ use Prim.Native.String.{String}
 use mathlib.Core.Path.{_≡_, refl}
 use mathlib.Core.List.{List, [], _∷_, map}
 use lib.ListN.{replicate}
-use Rattle.laws.specs.Lists.{tab}
+use Rattle.laws.specs.Lists.{tabFrom}
 use Rattle.tasks.specs.declared.Task.{Task}
 use Rattle.tasks.specs.Refusal.{within, unless}
 use Rattle.lines.specs.Frame.{sortOf, two, four}
@@ -16,7 +16,7 @@ use Rattle.lines.proofs.Text.{bytes}
 
 -- what a text is read as
 reading : List ℕ → Read
-unfolding tab bytes within unless sortOf two four isDigit digitOf pairs bytesOf before lines mayFollow rightNumber inPlace taskOf taken lengthRefusal frameRefusal lineRefusal placeRefusal readLines readWithin
+unfolding tabFrom bytes within unless sortOf two four isDigit digitOf pairs bytesOf before lines mayFollow rightNumber inPlace taskOf taken lengthRefusal frameRefusal lineRefusal placeRefusal readLines readWithin
 reading text = readProblem text
 
 -- a task of work C, due and anew every three slots, of rate 1 on two cores
@@ -30,7 +30,7 @@ equal work = record {
 }
 
 -- the three tasks of document 004's figure 2 on two equal cores
-example : String
+unfoldable pub example : String
 example = "0102\n02010000000100030003\n030101010000\n02020000000200030003\n030201010000\n02030000000300030003\n030301010000\n0401000003E8\n07\n"
 
 -- texts, and what each is read as

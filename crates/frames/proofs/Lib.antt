@@ -1,4 +1,4 @@
-mod Cases
+pub mod Cases
 mod PlaceLaws
 pub mod ProblemLaws
 mod ReachLaws

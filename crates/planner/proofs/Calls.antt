@@ -8,17 +8,15 @@ use lib.ListN.{length}
 use denote.Ref.{now}
 use Rattle.laws.proofs.Only.{Says, only-both}
 use Rattle.tasks.specs.declared.Task.{Task}
-use Rattle.table.specs.Fault.{check}
 use Rattle.rules.specs.Search.{search}
 use Rattle.search.specs.declared.Answer.{Answer}
 use Rattle.search.specs.Told.{toldOf}
 use Rattle.search.proofs.Calls.{told-only}
 use Rattle.checker.specs.declared.Verdict.{Verdict}
-use Rattle.checker.specs.Checks.{toldOf as checkedAs}
-use Rattle.checker.proofs.Calls.{told-only as checked-only}
+use Rattle.checker.proofs.Calls.{Checks, told-only as checked-only}
 use Rattle.player.specs.declared.Player.{Player}
 use Rattle.clock.specs.declared.Shown.{Shown}
-use Rattle.player.specs.Player.{started, afterStart}
+use Rattle.player.proofs.Calls.{Starts}
 use Rattle.answer.specs.Write.{Written}
 use Rattle.answer.proofs.Calls.{written-only}
 use Rattle.planner.specs.Answer.{answerTo}
@@ -42,7 +40,7 @@ plan-only ts m e b t r r′ u u′ = told-only r r′ u u′
 
 -- ---- check
 abbrev pub Check : List Task → ℕ → List ℕ → Verdict → Type 0
-Check ts m t r = checkedAs r ≡ check m ts t
+Check = Checks
 
 check-says : (κs tasks m table tasks′ m′ table′ r : _)
     → Says (λ M 𝓤 H A mem run. the-check.ensures-1 𝓤 H κs A mem run tasks m table tasks′ m′ table′ r)
@@ -52,9 +50,9 @@ check-says κs tasks m table tasks′ m′ table′ r M 𝓤 H A mem run = refl
 pub check-only : (ts : List Task) (m : ℕ) (t : List ℕ) (r r′ : Verdict) → Check ts m t r → Check ts m t r′ → r ≡ r′
 check-only ts m t r r′ = checked-only r r′
 
--- ---- start: it finds the record p, answers r and leaves the record p′
+-- ---- start
 abbrev pub Start : Player → List Task → ℕ → List ℕ → ℕ → Shown → Player → Type 0
-Start p ts m t tick r p′ = (r ≡ started m ts t tick) × (p′ ≡ afterStart m ts t tick p)
+Start = Starts
 
 start-says : (κs p tasks m table tick p′ tasks′ m′ table′ tick′ r : _)
     → Says (λ M 𝓤 H A mem run. start.ensures-1 𝓤 H κs A mem run p tasks m table tick p′ tasks′ m′ table′ tick′ r)

@@ -5,6 +5,7 @@ use mathlib.Core.Path.{_≡_, refl}
 use mathlib.Core.List.{List}
 use denote.Ref.{now}
 use Rattle.laws.proofs.Only.{Says, only-both}
+use Rattle.tasks.specs.declared.Task.{Task}
 use Rattle.tasks.specs.declared.TaskList.{TaskList}
 use Rattle.tasks.specs.Task.{rows}
 use Rattle.clock.specs.declared.Shown.{Shown}
@@ -26,9 +27,13 @@ step-says κs p tick p′ tick′ r M 𝓤 H A mem run = refl
 pub step-only : (p : Player) (tick : ℕ) (r r′ : Shown) (q q′ : Player) → Step p tick r q → Step p tick r′ q′ → (r ≡ r′) × (q ≡ q′)
 step-only p tick r r′ q q′ = only-both
 
--- ---- start: the same
+-- a start for the tasks ts, however they are handed over, finds the record p, answers r and leaves the record p′
+abbrev pub Starts : Player → List Task → ℕ → List ℕ → ℕ → Shown → Player → Type 0
+Starts p ts m t tick r p′ = (r ≡ started m ts t tick) × (p′ ≡ afterStart m ts t tick p)
+
+-- ---- start
 abbrev pub Start : Player → TaskList → ℕ → List ℕ → ℕ → Shown → Player → Type 0
-Start p list m t tick r p′ = (r ≡ started m (rows list) t tick) × (p′ ≡ afterStart m (rows list) t tick p)
+Start p list = Starts p (rows list)
 
 start-says : (κs p list m table tick p′ list′ m′ table′ tick′ r : _)
     → Says (λ M 𝓤 H A mem run. start.ensures-1 𝓤 H κs A mem run p list m table tick p′ list′ m′ table′ tick′ r)

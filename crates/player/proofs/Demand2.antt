@@ -14,8 +14,7 @@ use Rattle.laws.specs.Lists.{nth}
 use Rattle.laws.proofs.SumLaws.{sum-ext}
 use Rattle.laws.proofs.ListLaws.{tab-at}
 use Rattle.tasks.specs.declared.Task.{Task}
-use Rattle.tasks.specs.declared.TaskList.{TaskList}
-use Rattle.tasks.specs.Task.{rate, task, rows}
+use Rattle.tasks.specs.Task.{rate, task}
 use Rattle.tasks.specs.Refusal.{tableLength, IsSound}
 use Rattle.tasks.specs.Window.{InWindow}
 use Rattle.tasks.specs.Instance.{instanceOf}
@@ -24,7 +23,7 @@ use Rattle.table.specs.Table.{cells, Valid}
 use Rattle.table.specs.Fault.{noFault, inCell, inJob, Checked, refused, checked, check}
 use Rattle.checker.specs.declared.Verdict.the-variants.{Valid as IsValid}
 use Rattle.checker.specs.Checks.{toldOf}
-use Rattle.checker.proofs.Calls.{CheckTable}
+use Rattle.checker.proofs.Calls.{Checks}
 use Rattle.checker.proofs.Demand2.{tells}
 use Rattle.clock.specs.declared.Shown.{Shown}
 use Rattle.clock.specs.Clock.{elapsedAt, timeAfter}
@@ -34,14 +33,14 @@ use Rattle.player.specs.Player.{cellsOf, stepped, afterStep, checkRefusa
 use Rattle.player.specs.Played.{shownAs, shownAt, unitsIn}
 use Rattle.player.proofs.PlayLaws.{plays-work, plays-open, plays-rated, plays-once}
 use Rattle.player.proofs.RecordLaws.{InRange, moved, moved-none, moved-step, moved-answer, made-unspoilt, made-cells}
-use Rattle.player.proofs.Calls.{Start, Step}
+use Rattle.player.proofs.Calls.{Starts, Step}
 
 -- ---- statements
--- a run: a call of `start` over the record p at the first tick, and n calls of `step`, each at the next tick on the record that the call before it left
-pub record Run (list : TaskList) (m : ℕ) (t : List ℕ) (p : Player) (tick : ℕ → ℕ) (n : ℕ) (shown : ℕ → Shown) (left : ℕ → Player) : Type 0 where
+-- a run: a start for the tasks ts over the record p at the first tick, and n calls of `step`, each at the next tick on the record that the call before it left
+pub record Run (ts : List Task) (m : ℕ) (t : List ℕ) (p : Player) (tick : ℕ → ℕ) (n : ℕ) (shown : ℕ → Shown) (left : ℕ → Player) : Type 0 where
   -- a tick has 32 bits
   pub ticks : (s : ℕ) → s ≤ n → tick s < 2 ^ 32
-  pub starts : Start p list m t (tick 0) (shown 0) (left 0)
+  pub starts : Starts p ts m t (tick 0) (shown 0) (left 0)
   pub steps : (s : ℕ) → s < n → Step (left s) (tick (suc s)) (shown (suc s)) (left (suc s))
 
 -- a table played with any elapsed numbers
@@ -79,11 +78,8 @@ pub record Plays (m : ℕ) (ts : List Task) (t : List ℕ) (n : ℕ) (shown : �
   pub once : (i s j j' : ℕ) → i ≢ 0 → i ≤ length ts → s ≤ n → j < 4 → j' < 4 → j ≢ j' → nth (shown s .cells) j ≡ i → nth (shown s .cells) j' ≡ i → ⊥
 
 -- ---- proofs
-module _ (list : TaskList) (m : ℕ) (t : List ℕ) (p : Player) (tick : ℕ → ℕ) (n : ℕ) (shown : ℕ → Shown) (left : ℕ → Player)
-    (valid : CheckTable list m t IsValid) (run : Run list m t p tick n shown left) where
-  abbrev ts : List Task
-  ts = rows list
-
+module _ (ts : List Task) (m : ℕ) (t : List ℕ) (p : Player) (tick : ℕ → ℕ) (n : ℕ) (shown : ℕ → Shown) (left : ℕ → Player)
+    (valid : Checks ts m t IsValid) (run : Run ts m t p tick n shown left) where
   abbrev made : Player
   made = recordOf m ts t (tick 0)
 
@@ -219,12 +215,12 @@ first-verdict : (p : Player) (r : ℕ) → firstShown p r .verdict ≡ r
 first-verdict p zero = refl
 first-verdict p (suc r) = refl
 
-start-verdict : (list : TaskList) (m : ℕ) (t : List ℕ) (p q : Player) (τ : ℕ) (r : Shown) → Start p list m t τ r q → r .verdict ≡ startRefusal m (rows list) t
-unfolding started
-start-verdict list m t p q τ r e = ap (λ a. a .verdict) (e .0) ∙ first-verdict _ _
+module _ (ts : List Task) (m : ℕ) (t : List ℕ) (p q : Player) (τ : ℕ) (r : Shown) (call : Starts p ts m t τ r q) where
+  pub start-verdict : r .verdict ≡ startRefusal m ts t
+  unfolding started
+  start-verdict = ap (λ a. a .verdict) (call .0) ∙ first-verdict _ _
 
--- so a start is accepted exactly if the checker finds the table valid
-pub accepts : (list : TaskList) (m : ℕ) (t : List ℕ) (p q : Player) (τ : ℕ) (r : Shown) → Start p list m t τ r q → (r .verdict ≡ 0) ↔ CheckTable list m t IsValid
-unfolding toldOf
-accepts list m t p q τ r e = let v = start-verdict list m t p q τ r e in
-    (λ z. sym (none-wrong (check m (rows list) t) (some-refused m (rows list) t) (sym v ∙ z)), λ x. v ∙ ap checkRefusal (sym x))
+  -- so a start is accepted exactly if the checker finds the table valid
+  pub accepts : (r .verdict ≡ 0) ↔ Checks ts m t IsValid
+  unfolding toldOf
+  accepts = (λ z. sym (none-wrong (check m ts t) (some-refused m ts t) (sym start-verdict ∙ z)), λ x. start-verdict ∙ ap checkRefusal (sym x))

@@ -54,6 +54,10 @@ compared P regular = record {
   counted = λ e b. bwalk-limited b (ruleOf e P) (values P) (cells P) [];
 }
 
+-- without a limit, for every sound list: the same verdict and the same table, cell for cell, and the quick walk takes no more tries
+pub without-limit : (m : ℕ) (ts : List Task) → IsSound m ts → Quicker (walked 1 (ownInstance m ts)) (walked 0 (ownInstance m ts))
+without-limit m ts sound = compared (ownInstance m ts) (own-regular m ts sound) .quick-same
+
 -- a search that is not stopped ends within the limit
 in-limit : (P : Instance) (r : Result) (b : ℕ) (buffer : List ℕ) (s : Searched) → Searches P r b buffer s → s .verdict ≢ 14 → tries r ≤ b
 in-limit P r b buffer s h x = ⊎-elim (λ l. absurd (x (h .stops .1 l))) (λ l. l) (lt-or-ge b (tries r))
@@ -101,5 +105,5 @@ module _ (P : Instance) (r' r : Result) (q : Quicker r' r) (b : ℕ) (t' t : Lis
 pub agree : (m : ℕ) (ts : List Task) (b : ℕ) (t' t : List ℕ) → IsSound m ts → cells (ownInstance m ts) ≤ length t' → cells (ownInstance m ts) ≤ length t
     → Agree (ownInstance m ts) (walked 1 (ownInstance m ts)) (walked 0 (ownInstance m ts)) b (search m ts 1 b t') (search m ts 0 b t)
 agree m ts b t' t sound room' room =
-    agrees (ownInstance m ts) _ _ (compared (ownInstance m ts) (own-regular m ts sound) .quick-same) b t' t _ _
+    agrees (ownInstance m ts) _ _ (without-limit m ts sound) b t' t _ _
     (searches m ts 1 b t' sound (omega arith) room') (searches m ts 0 b t sound (omega arith) room)

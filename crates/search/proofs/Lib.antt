@@ -1,4 +1,3 @@
 pub mod AnswerLaws
 pub mod ToldLaws
 pub mod Calls
-pub mod Demands

@@ -10,7 +10,7 @@ use lib.Dec.{T, eqb, eqb→eq, not-T, T-not}
 use lib.Arith.{digits-div, digits-mod}
 use borrow.Author.Tests.{eq-eqb}
 use Rattle.laws.specs.Sum.{gate, sum}
-use Rattle.laws.proofs.SumLaws.{gate-eq, gate-ne, sum-ext, sum-zero, sum-stays, sum-only, sum-swap, sum-const}
+use Rattle.laws.proofs.SumLaws.{gate-eq, gate-ne, gate-zero, sum-ext, sum-zero, sum-stays, sum-only, sum-swap, sum-const}
 use Rattle.laws.proofs.TestLaws.{all-at, at-all, all-same}
 use Rattle.tasks.specs.Instance.{Instance, jobEnd, Regular}
 use Rattle.table.specs.Table.{cells, slotOf, coreOf, beside, share, done, free, Valid}
@@ -105,3 +105,12 @@ module _ (P : Instance) (regular : Regular P) (f : ℕ → ℕ) (v : Valid P f) 
   unfolding done
   task-total = sym (sum-ext (cells P) _ _ cell-total) ∙ sum-swap (cells P) (P .jobs i) (λ c k. share P i k c (f c))
       ∙ sum-ext (P .jobs i) _ (λ k. P .work i) (λ k j. v .full i k x l j) ∙ sum-const (P .jobs i) (P .work i)
+
+-- a job of a task whose rates are all 0 gets no work, so no table serves it
+pub no-rate : (P : Instance) → 0 < P .cores → (i k : ℕ) → i ≢ 0 → i ≤ P .tasks → k < P .jobs i → 0 < P .work i → ((j : ℕ) → j < P .cores → P .rate i j ≡ 0)
+    → (f : ℕ → ℕ) → Valid P f → ⊥
+unfolding done share
+no-rate P some-core i k x l h works none f v = omega (arith, works, v .full i k x l h, sum-zero (cells P) (λ c. share P i k c (f c)) (λ c _. nothing c))
+  where
+    nothing : (c : ℕ) → share P i k c (f c) ≡ 0
+    nothing c = rw (none (coreOf P c) (mod-lt c some-core)) (gate-zero _)
