@@ -41,18 +41,18 @@ module _ {h position age m n : ℕ} (u : Unspoilt h position age m n) (last s : 
   -- a step that is in time moves them on by its elapsed number
   pub moved-on : (e : ℕ) → e < 2 ^ 31
       → nextOf (tickAfter last s) h ((position + s) % h) (min (age + s) 1024) m n (tickAfter (tickAfter last s) e)
-      ≡ record { last = tickAfter last (s + e); missed = e - 1; at = (position + (s + e)) % h * m; position = (position + (s + e)) % h; age = min (age + (s + e)) 1024; verdict = 0 }
+      ≡ record { last = tickAfter last (s + e); missed = e - 1; at = (position + (s + e)) % h * m; position = record { 0 = (position + (s + e)) % h }; age = record { 0 = min (age + (s + e)) 1024 }; verdict = 0 }
   moved-on e l =
       let is = elapsed-is (last + s) e (omega arith) in
       sym (next-taken _ _ _ _ _ _ _ 0 e _ _ (sym (not-refused _ _ _ _ _ _ _ moved-unspoilt (omega (arith, is)))) refl (sym is) refl (omega arith))
       ∙ same (omega arith) (mod-add-mod (position + s) h e ∙ ap (λ x. x % h) (omega arith))
     where
       same : {a a' b b' : ℕ} → a ≡ a' → b ≡ b'
-          → _≡_ {A = Next} (record { last = a; missed = e - 1; at = b * m; position = b; age = min (age + (s + e)) 1024; verdict = 0 })
-          (record { last = a'; missed = e - 1; at = b' * m; position = b'; age = min (age + (s + e)) 1024; verdict = 0 })
+          → _≡_ {A = Next} (record { last = a; missed = e - 1; at = b * m; position = record { 0 = b }; age = record { 0 = min (age + (s + e)) 1024 }; verdict = 0 })
+          (record { last = a'; missed = e - 1; at = b' * m; position = record { 0 = b' }; age = record { 0 = min (age + (s + e)) 1024 }; verdict = 0 })
       same x y = cc
 
 -- 01's example: H = 12, and slot 3 at tick 4294967295; at the next tick, 0, it is slot 4 and not 0
-after-wrap : nextOf 4294967295 12 3 3 1 1 0 .position ≡ 4
+after-wrap : nextOf 4294967295 12 3 3 1 1 0 .position .0 ≡ 4
 unfolding nextOf stepRefusal within unless
 after-wrap = refl

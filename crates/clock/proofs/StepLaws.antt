@@ -116,7 +116,7 @@ module _ (last h position age m n tick : ℕ) where
 
   -- what any other works out
   pub next-taken : (v e missed older : ℕ) → v ≡ refusal → v ≡ 0 → e ≡ elapsedOf tick last → missed ≡ e - 1 → older ≡ min (age + e) 1024
-      → _≡_ {A = Next} (record { last = tick; missed = missed; at = (position + e) % h * m; position = (position + e) % h; age = older; verdict = v }) (nextOf last h position age m n tick)
+      → _≡_ {A = Next} (record { last = tick; missed = missed; at = (position + e) % h * m; position = record { 0 = (position + e) % h }; age = record { 0 = older }; verdict = v }) (nextOf last h position age m n tick)
   unfolding nextOf
   next-taken v e missed older r z is em ea = rw (← r, z, em, ea, is)
 
@@ -141,7 +141,7 @@ module _ (x : Next) (m n : ℕ) (offsets : List ℕ) where
 
   -- the answer of any other
   pub answer-taken : (a b c d a' b' c' d' : ℕ) → x .verdict ≡ 0
-      → a' ≡ cellOf m n (x .age) offsets 0 a → b' ≡ cellOf m n (x .age) offsets 1 b → c' ≡ cellOf m n (x .age) offsets 2 c → d' ≡ cellOf m n (x .age) offsets 3 d
+      → a' ≡ cellOf m n (x .age .0) offsets 0 a → b' ≡ cellOf m n (x .age .0) offsets 1 b → c' ≡ cellOf m n (x .age .0) offsets 2 c → d' ≡ cellOf m n (x .age .0) offsets 3 d
       → _≡_ {A = Shown} (record { verdict = x .verdict; cells = a' ∷ b' ∷ c' ∷ d' ∷ []; missed = x .missed }) (answerOf x m n offsets (a ∷ b ∷ c ∷ d ∷ []))
   unfolding answerOf tabFrom
   answer-taken a b c d a' b' c' d' z ea eb ec ed = rw (z, ea, eb, ec, ed)

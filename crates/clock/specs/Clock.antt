@@ -26,13 +26,13 @@ stepRefusal last h position age m n tick = unless (every (ranges h position age 
 
 -- what a refused step works out, and a start: last, position and age as they are
 abbrev pub staysOf : ℕ → ℕ → ℕ → ℕ → Next
-staysOf last position age verdict = record { last = last; missed = 0; at = 0; position = position; age = age; verdict = verdict }
+staysOf last position age verdict = record { last = last; missed = 0; at = 0; position = record { 0 = position }; age = record { 0 = age }; verdict = verdict }
 
 -- what any other works out at the new tick, of the elapsed number e: position advances by it modulo H, age by it but not past 1024, last becomes the new tick,
 -- missed = elapsed - 1 (0 if elapsed is 0), and the slot's cells begin behind those of the slots before it
 abbrev pub advanced : ℕ → ℕ → ℕ → ℕ → ℕ → ℕ → Next
 advanced h position age m tick e =
-    record { last = tick; missed = e - 1; at = (position + e) % h * m; position = (position + e) % h; age = min (age + e) 1024; verdict = 0 }
+    record { last = tick; missed = e - 1; at = (position + e) % h * m; position = record { 0 = (position + e) % h }; age = record { 0 = min (age + e) 1024 }; verdict = 0 }
 
 -- the one or the other, by the refusal
 abbrev pub nextIf : ℕ → ℕ → ℕ → ℕ → Next → Next
@@ -60,7 +60,7 @@ answerOr (suc r) s = record { verdict = suc r; cells = 0 ∷ 0 ∷ 0 ∷ 0 ∷ [
 -- the answer to what a step works out, with the four cells of the table
 unfoldable pub answerOf : Next → ℕ → ℕ → List ℕ → List ℕ → Shown
 answerOf x m n offsets cells =
-    answerOr (x .verdict) (record { verdict = 0; cells = tab 4 (λ j. cellOf m n (x .age) offsets j (nth cells j)); missed = x .missed })
+    answerOr (x .verdict) (record { verdict = 0; cells = tab 4 (λ j. cellOf m n (x .age .0) offsets j (nth cells j)); missed = x .missed })
 
 -- ---- ticks
 -- the elapsed number from tick s to the next

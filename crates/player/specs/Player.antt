@@ -32,8 +32,8 @@ abbrev pub stored : Player → Next → Player
 stored p x = record {
   last = x .last;
   h = p .h;
-  position = x .position;
-  age = x .age;
+  position = x .position .0;
+  age = x .age .0;
   offsets = p .offsets;
   m = p .m;
   n = p .n;

@@ -7,6 +7,7 @@ ghost use Rattle.tasks.specs.Task.{rows};
 ghost use Rattle.player.specs.Player.{stepped, afterStep, padded, Startable, startRefusal, recordOf, firstShown, started, afterStart};
 use checker::Verdict;
 use clock::Shown;
+use tasks::Slots;
 use tasks::Soundness;
 use tasks::TaskList;
 
@@ -36,15 +37,23 @@ pub const INVALID: u8 = 11;
 pub fn step(p: &mut Player, tick: u32) -> Shown
     ensures { λ r. ⌜ (r ≡ stepped (now (p .entry)) tick) × (now (p .exit) ≡ afterStep (now (p .entry)) tick) ⌝ }
 {
-    let next = clock::next_of(p.last, p.h, p.position, p.age, p.m, p.n, tick);
+    let next = clock::next_of(
+        p.last,
+        Slots(p.h),
+        Slots(p.position),
+        Slots(p.age),
+        p.m,
+        p.n,
+        tick,
+    );
     let at = next.at;
     let a = p.table[at];
     let b = p.table[at + 1];
     let c = p.table[at + 2];
     let d = p.table[at + 3];
     p.last = next.last;
-    p.position = next.position;
-    p.age = next.age;
+    p.position = next.position.0;
+    p.age = next.age.0;
     clock::answer(next, p.m, p.n, p.offsets, a, b, c, d)
 }
 
@@ -85,19 +94,19 @@ fn cells_of(table: &[u8], count: usize) -> [u8; 4096]
 }
 
 // The record that a start makes for a sound list, whose table has h slots.
-fn record_of(list: TaskList, h: u16, m: u8, table: &[u8], tick: u32) -> Player
-    requires { ⌜ Startable list h m (now table) ⌝ }
+fn record_of(list: TaskList, h: Slots, m: u8, table: &[u8], tick: u32) -> Player
+    requires { ⌜ Startable list (h .0) m (now table) ⌝ }
     ensures { λ r. ⌜ r ≡ recordOf m (rows list) (now (table .entry)) tick ⌝ }
 {
     Player {
         last: tick,
-        h,
+        h: h.0,
         position: 0,
         age: 0,
         offsets: offsets_of(list),
         m,
         n: list.n,
-        table: cells_of(table, h as usize * m as usize),
+        table: cells_of(table, h.0 as usize * m as usize),
     }
 }
 
@@ -110,7 +119,7 @@ fn begin(p: Player, number: u8, list: TaskList, m: u8, table: &[u8], tick: u32) 
         return p;
     }
     match tasks::test_list(list, m) {
-        Soundness::Sound(h) => record_of(list, h.0, m, table, tick),
+        Soundness::Sound(h) => record_of(list, h, m, table, tick),
         Soundness::Refused(_) => p,
     }
 }
@@ -135,7 +144,7 @@ fn first_shown(p: Player, verdict: u8) -> Shown
 {
     let offsets = p.offsets;
     let table = p.table;
-    let next = clock::stays(p.last, p.position, p.age, verdict);
+    let next = clock::stays(p.last, Slots(p.position), Slots(p.age), verdict);
     clock::answer(
         next,
         p.m,

@@ -9,7 +9,7 @@ returns : tie.Need-returns
 returns c = answer-refused _ _ _ _ _ (c .if1 .taken)
 
 returns-2 : tie.Need-returns-2
-returns-2 c = let d = c .before .before in answer-taken _ _ _ _ _ _ _ _ _ _ _ _ (d .before .before .if1 .left) (d .before .cell-of .ensures) (d .cell-of2 .ensures) (c .before .cell-of3 .ensures) (c .cell-of4 .ensures)
+returns-2 c = let d = c .before .before in answer-taken _ _ _ _ _ _ _ _ _ _ _ _ (d .before .before .before .if1 .left) (d .before .cell-of .ensures) (d .cell-of2 .ensures) (c .before .cell-of3 .ensures) (c .cell-of4 .ensures)
 
 pub answer-spec : {M : Type 1} → statement M
 answer-spec = tie.close (tie.spec

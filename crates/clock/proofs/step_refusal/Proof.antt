@@ -8,7 +8,7 @@ use Rattle.clock.proofs.step_refusal.Statement.{statement}
 use Rattle.clock.proofs.step_refusal.Tie as tie
 
 -- where every test has passed
-all-passed : (c : tie.After-elapsed) → let a = c .before .before .before .before .before .before .before .before .args in Unspoilt (a .h) (a .position) (a .age) (a .m) (a .n)
+all-passed : (c : tie.After-elapsed-of) → let a = c .before .before .before .before .before .before .before .before .before .before .before .before .args in Unspoilt (a .h .0) (a .position .0) (a .age .0) (a .m) (a .n)
 all-passed c = record {
   some-slot = omega arith;
   few-slots = omega arith;
@@ -42,10 +42,10 @@ returns-7 : tie.Need-returns-7
 returns-7 c = sym (refused-spoilt _ _ _ _ _ _ _ (λ u. omega arith))
 
 returns-8 : tie.Need-returns-8
-returns-8 c = sym (refused-past _ _ _ _ _ _ _ (all-passed (c .before)) (omega arith))
+returns-8 c = sym (refused-past _ _ _ _ _ _ _ (all-passed (c .before .before)) (omega arith))
 
 returns-9 : tie.Need-returns-9
-returns-9 c = sym (not-refused _ _ _ _ _ _ _ (all-passed (c .before)) (omega arith))
+returns-9 c = sym (not-refused _ _ _ _ _ _ _ (all-passed (c .before .before)) (omega arith))
 
 pub step-refusal-spec : {M : Type 1} → statement M
 step-refusal-spec = tie.close (tie.spec

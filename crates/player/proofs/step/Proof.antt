@@ -21,7 +21,7 @@ use contract.Monad.{Fun, fact}
 use contract.Running.{givenOf, tables, tablesOf}
 use types.Kit.{Given, ‵, raw, some, later, _⊛_, _$_, _∵_, !, qed, by, move, keep, drop, use0, use1, split, join, pick, rewrite, fsplit, fsplit3, fjoin, fjoin3, feqI, suffices, frame, await, done}
 use types.Run.{look, init, store, forget, stop, hop, fld, from, load, lit, of-opd, bin, addr, and-then, no-more, assigns, land, returns, enter, alloc1, alloc0, params1, pass1, pass0, free1, free0}
-use types.Part.{whole, sub, look-in, store-in}
+use types.Part.{agg, whole, sub, look-in, store-in}
 use types.SemTy.{Body}
 use sound.WpLaws.{FmC, fmOf, WpFn-mono}
 use denote.RattleType.{owns}
@@ -45,6 +45,7 @@ use denote.Triple.Table.{entered, cited}
 use denote.Triple.Walked.{says, Stays, stay-ref, stay-none, walkOf, goes-none, goes-ref, Walks, ends-at, walked, walk-meets}
 use denote.Exit.{yes}
 use Rattle.laws.specs.Lists.{nth}
+use Rattle.tasks.specs.declared.Slots.{Slots}
 use Rattle.clock.specs.Clock.{nextOf, answerOf}
 use Rattle.clock.specs.declared.Next.{Next}
 use Rattle.clock.specs.declared.Shown.{Shown}
@@ -54,6 +55,8 @@ use Rattle.player.proofs.ApartLaws.{reads-in, stores, answers}
 use Rattle.player.proofs.Element.{byte}
 use Rattle.player.proofs.Player as T
 use Rattle.player.proofs.Player.Laws as T′
+use Rattle.tasks.proofs.Slots as Sl
+use Rattle.tasks.proofs.Slots.Laws as Sl′
 use Rattle.clock.proofs.Next as N
 use Rattle.clock.proofs.Next.Laws as N′
 use Rattle.clock.proofs.Shown as S
@@ -118,6 +121,21 @@ lies h vs is =
       cell = λ k l. byte-fits (h .table) (t .0) (t .1 .1) k (subst (λ (j : ℕ). k < j) (sym (t .1 .0 .1)) l);
     }
 
+-- ---- slots of time
+-- a number of them
+abbrev slots : ℕ → Slots
+slots x = record { 0 = x }
+
+-- as they lie in memory
+slots-is : (x : ℕ) → x < 2 ^ 16 → Is Sl.the-row (slots x) (Sl′.lowered (slots x) ∷ [])
+slots-is x l =
+    let i = LL.owes Sl.the-type Sl′.the-laws (slots x) ((refl, l), tt) in
+    subst (Is Sl.the-row (slots x)) (Sl′.lowers .val-is (slots x) _ i) i
+
+-- their number
+number-is : {x : Slots} {vs : List Val} → Is Sl.the-row x vs → Is u16 (x .0) (vint w16 (x .0) ∷ [])
+number-is {x} {vs} is = LL.owed Sl.the-type Sl′.the-laws x vs is .0
+
 -- ---- the contracts that the walk cites
 abbrev NextOf : {M : Type 1} (𝓤 : URA M) (H : Heap 𝓤) (A : Atoms 𝓤) (mem : Memory → SProp 𝓤) (run : Routine → Fun 𝓤) → Contract 𝓤
 NextOf 𝓤 H A mem run = tripleOf 𝓤 H A next-of.signature (next-of.spec 𝓤 H A mem run)
@@ -155,7 +173,7 @@ module _ {M : Type 1} (𝓤 : URA M) (H : Heap 𝓤) (A : Atoms 𝓤) (W : Given
   made r vs us is was =
       let p = LL.owed T.the-type T′.the-laws h us was in
       let k = LL.owed N.the-type N′.the-laws r vs is in
-      let i = LL.owes T.the-type T′.the-laws (stored h r) (k .0, (p .1 .0, (k .1 .1 .1 .0, (k .1 .1 .1 .1 .0, p .1 .1 .1 .1)))) in
+      let i = LL.owes T.the-type T′.the-laws (stored h r) (k .0, (p .1 .0, (number-is (k .1 .1 .1 .0), (number-is (k .1 .1 .1 .1 .0), p .1 .1 .1 .1)))) in
       subst (Is T.the-row (stored h r)) (T′.lowers .val-is (stored h r) _ i) i
 
   -- what is had at the end is what the contract asks
@@ -175,8 +193,8 @@ module _ {M : Type 1} (𝓤 : URA M) (H : Heap 𝓤) (A : Atoms 𝓤) (W : Given
       tt,
       tt,
       tt,
-      (h .last, (h .h, (h .position, (h .age, (h .m, (h .n, (n, tt))))))),
-      (vint w32 (h .last) ∷ [], (vint w16 (h .h) ∷ [], (vint w16 (h .position) ∷ [], (vint w16 (h .age) ∷ [], (vint w8 (h .m) ∷ [], (vint w8 (h .n) ∷ [], (vint w32 n ∷ [], tt))))))),
+      (h .last, (slots (h .h), (slots (h .position), (slots (h .age), (h .m, (h .n, (n, tt))))))),
+      (vint w32 (h .last) ∷ [], (Sl′.lowered (slots (h .h)) ∷ [], (Sl′.lowered (slots (h .position)) ∷ [], (Sl′.lowered (slots (h .age)) ∷ [], (vint w8 (h .m) ∷ [], (vint w8 (h .n) ∷ [], (vint w32 n ∷ [], tt))))))),
     ),
     tt,
   )
@@ -186,9 +204,9 @@ module _ {M : Type 1} (𝓤 : URA M) (H : Heap 𝓤) (A : Atoms 𝓤) (W : Given
       owned ! u32 (Is u32) (uint-makes 𝓤 H A W w32) n _ (refl, fits) $ fjoin ! $
       owned ! u8 (Is u8) (uint-makes 𝓤 H A W w8) (h .n) _ (refl, l .n) $ fjoin ! $
       owned ! u8 (Is u8) (uint-makes 𝓤 H A W w8) (h .m) _ (refl, l .m) $ fjoin ! $
-      owned ! u16 (Is u16) (uint-makes 𝓤 H A W w16) (h .age) _ (refl, l .age) $ fjoin ! $
-      owned ! u16 (Is u16) (uint-makes 𝓤 H A W w16) (h .position) _ (refl, l .position) $ fjoin ! $
-      owned ! u16 (Is u16) (uint-makes 𝓤 H A W w16) (h .h) _ (refl, l .h') $ fjoin ! $
+      owned ! Sl.the-row (Is Sl.the-row) ((LL.makes Sl.the-type Sl′.the-plain) 𝓤 H A) (slots (h .age)) _ (slots-is (h .age) (l .age)) $ fjoin ! $
+      owned ! Sl.the-row (Is Sl.the-row) ((LL.makes Sl.the-type Sl′.the-plain) 𝓤 H A) (slots (h .position)) _ (slots-is (h .position) (l .position)) $ fjoin ! $
+      owned ! Sl.the-row (Is Sl.the-row) ((LL.makes Sl.the-type Sl′.the-plain) 𝓤 H A) (slots (h .h)) _ (slots-is (h .h) (l .h')) $ fjoin ! $
       owned ! u32 (Is u32) (uint-makes 𝓤 H A W w32) (h .last) _ (refl, l .last) $ fjoin ! $
       nothing ! $ join ! $ frame ! $ done !
 
@@ -241,65 +259,68 @@ module _ {M : Type 1} (𝓤 : URA M) (H : Heap 𝓤) (A : Atoms 𝓤) (W : Given
         qed W ((‵ (flft κ q) ⊛ ‵ ftrue) ∷ ‵ (owns (MutRef (named 0) κ T.the-row ∷ u32 ∷ []) x at) ∷ []) ∵ split ! $ move ! (2 ∷ []) $ fsplit ! $ fsplit3 ! $ drop ! $ move ! (0 ∷ 1 ∷ 3 ∷ []) $
         -- [obs; the borrow; the token; what n owns; true]
         enter ! C Λ code.function (vptr b o ∷ vint w32 n ∷ []) _ $
-        alloc1 ! (λ l0. alloc1 ! (λ l1. alloc1 ! (λ l2. alloc1 ! (λ l3. alloc1 ! (λ l4. alloc1 ! (λ l5. alloc1 ! (λ l6. alloc1 ! (λ l7. alloc1 ! (λ l8. alloc1 ! (λ l9. alloc1 ! (λ l10. alloc1 ! (λ l11. alloc1 ! (λ l12. alloc1 ! (λ l13. alloc1 ! (λ l14. alloc1 ! (λ l15. alloc1 ! (λ l16. alloc1 ! (λ l17. alloc1 ! (λ l18. alloc1 ! (λ l19. alloc1 ! (λ l20. alloc1 ! (λ l21. alloc1 ! (λ l22. alloc1 ! (λ l23. alloc1 ! (λ l24. alloc0 ! $ params1 ! $ pass1 ! (init ! 46 refl (tt, tt)) $ pass1 ! (init ! 44 refl (tt, record { fits = fits })) $ pass0 ! $
-        move ! (50 ∷ 51 ∷ 52 ∷ []) $ opens ! tt T.the-row {h = h} b o (λ vs. spelt ! T.the-row (Is T.the-row) (shows 𝓤 H A T.the-row) (λ d. T′.lowered d ∷ []) (T′.lowers .val-is) fullShare h vs b o $
+        alloc1 ! (λ l0. alloc1 ! (λ l1. alloc1 ! (λ l2. alloc1 ! (λ l3. alloc1 ! (λ l4. alloc1 ! (λ l5. alloc1 ! (λ l6. alloc1 ! (λ l7. alloc1 ! (λ l8. alloc1 ! (λ l9. alloc1 ! (λ l10. alloc1 ! (λ l11. alloc1 ! (λ l12. alloc1 ! (λ l13. alloc1 ! (λ l14. alloc1 ! (λ l15. alloc1 ! (λ l16. alloc1 ! (λ l17. alloc1 ! (λ l18. alloc1 ! (λ l19. alloc1 ! (λ l20. alloc1 ! (λ l21. alloc1 ! (λ l22. alloc1 ! (λ l23. alloc1 ! (λ l24. alloc1 ! (λ l25. alloc1 ! (λ l26. alloc1 ! (λ l27. alloc0 ! $ params1 ! $ pass1 ! (init ! 52 refl (tt, tt)) $ pass1 ! (init ! 50 refl (tt, record { fits = fits })) $ pass0 ! $
+        move ! (56 ∷ 57 ∷ 58 ∷ []) $ opens ! tt T.the-row {h = h} b o (λ vs. spelt ! T.the-row (Is T.the-row) (shows 𝓤 H A T.the-row) (λ d. T′.lowered d ∷ []) (T′.lowers .val-is) fullShare h vs b o $
         use1 W (‵ (fat fullShare T′.mir b o (T′.lowered h))) (W .laws .raw-at fullShare T′.mir b o (T′.lowered h)) $
         move ! (1 ∷ []) $ peeks ! T.the-row (Is T.the-row) (shows 𝓤 H A T.the-row) h (T′.lowered h ∷ []) (λ was. drop ! $
-        -- [the record's cell; the open borrow; obs; auth; _24; …; _0; …]: the six numbers are copied out, and `clock::next_of` is called
-        assigns ! (of-opd ! (load ! (from ! (hop ! (look ! 50 refl) (fld ! refl (stop !)))) (look-in ! 0 (sub ! 0 refl (whole !))))) (from ! (stop !)) (init ! 34 refl (tt, record { fits = lies h _ was .last })) $
-        assigns ! (of-opd ! (load ! (from ! (hop ! (look ! 50 refl) (fld ! refl (stop !)))) (look-in ! 0 (sub ! 1 refl (whole !))))) (from ! (stop !)) (init ! 32 refl (tt, record { fits = lies h _ was .h' })) $
-        assigns ! (of-opd ! (load ! (from ! (hop ! (look ! 50 refl) (fld ! refl (stop !)))) (look-in ! 0 (sub ! 2 refl (whole !))))) (from ! (stop !)) (init ! 30 refl (tt, record { fits = lies h _ was .position })) $
-        assigns ! (of-opd ! (load ! (from ! (hop ! (look ! 50 refl) (fld ! refl (stop !)))) (look-in ! 0 (sub ! 3 refl (whole !))))) (from ! (stop !)) (init ! 28 refl (tt, record { fits = lies h _ was .age })) $
-        assigns ! (of-opd ! (load ! (from ! (hop ! (look ! 50 refl) (fld ! refl (stop !)))) (look-in ! 0 (sub ! 5 refl (whole !))))) (from ! (stop !)) (init ! 26 refl (tt, record { fits = lies h _ was .m })) $
-        assigns ! (of-opd ! (load ! (from ! (hop ! (look ! 50 refl) (fld ! refl (stop !)))) (look-in ! 0 (sub ! 6 refl (whole !))))) (from ! (stop !)) (init ! 24 refl (tt, record { fits = lies h _ was .n })) $
+        -- [the record's cell; the open borrow; obs; auth; _27; …; _0; …]: the six numbers are copied out, three of them as slots, and `clock::next_of` is called
+        assigns ! (of-opd ! (load ! (from ! (hop ! (look ! 56 refl) (fld ! refl (stop !)))) (look-in ! 0 (sub ! 0 refl (whole !))))) (from ! (stop !)) (init ! 40 refl (tt, record { fits = lies h _ was .last })) $
+        assigns ! (of-opd ! (load ! (from ! (hop ! (look ! 56 refl) (fld ! refl (stop !)))) (look-in ! 0 (sub ! 1 refl (whole !))))) (from ! (stop !)) (init ! 38 refl (tt, record { fits = lies h _ was .h' })) $
+        assigns ! (agg ! (and-then ! (load ! (from ! (stop !)) (look ! 38 refl)) (no-more !))) (from ! (stop !)) (init ! 36 refl (tt, (record { fits = lies h _ was .h' }, tt))) $
+        assigns ! (of-opd ! (load ! (from ! (hop ! (look ! 56 refl) (fld ! refl (stop !)))) (look-in ! 0 (sub ! 2 refl (whole !))))) (from ! (stop !)) (init ! 34 refl (tt, record { fits = lies h _ was .position })) $
+        assigns ! (agg ! (and-then ! (load ! (from ! (stop !)) (look ! 34 refl)) (no-more !))) (from ! (stop !)) (init ! 32 refl (tt, (record { fits = lies h _ was .position }, tt))) $
+        assigns ! (of-opd ! (load ! (from ! (hop ! (look ! 56 refl) (fld ! refl (stop !)))) (look-in ! 0 (sub ! 3 refl (whole !))))) (from ! (stop !)) (init ! 30 refl (tt, record { fits = lies h _ was .age })) $
+        assigns ! (agg ! (and-then ! (load ! (from ! (stop !)) (look ! 30 refl)) (no-more !))) (from ! (stop !)) (init ! 28 refl (tt, (record { fits = lies h _ was .age }, tt))) $
+        assigns ! (of-opd ! (load ! (from ! (hop ! (look ! 56 refl) (fld ! refl (stop !)))) (look-in ! 0 (sub ! 5 refl (whole !))))) (from ! (stop !)) (init ! 26 refl (tt, record { fits = lies h _ was .m })) $
+        assigns ! (of-opd ! (load ! (from ! (hop ! (look ! 56 refl) (fld ! refl (stop !)))) (look-in ! 0 (sub ! 6 refl (whole !))))) (from ! (stop !)) (init ! 24 refl (tt, record { fits = lies h _ was .n })) $
         use0 W (raw (NextOf 𝓤 H A at-mem run .pre to-next)) (goes-next (lies h _ was)) $
-        calls-at ! fm (NextOf 𝓤 H A at-mem run) known-next to-next (and-then ! (load ! (from ! (stop !)) (look ! 35 refl)) (and-then ! (load ! (from ! (stop !)) (look ! 33 refl)) (and-then ! (load ! (from ! (stop !)) (look ! 31 refl)) (and-then ! (load ! (from ! (stop !)) (look ! 29 refl)) (and-then ! (load ! (from ! (stop !)) (look ! 27 refl)) (and-then ! (load ! (from ! (stop !)) (look ! 25 refl)) (and-then ! (load ! (from ! (stop !)) (look ! 49 refl)) (no-more !)))))))) (λ v.
+        calls-at ! fm (NextOf 𝓤 H A at-mem run) known-next to-next (and-then ! (load ! (from ! (stop !)) (look ! 41 refl)) (and-then ! (load ! (from ! (stop !)) (look ! 37 refl)) (and-then ! (load ! (from ! (stop !)) (look ! 33 refl)) (and-then ! (load ! (from ! (stop !)) (look ! 29 refl)) (and-then ! (load ! (from ! (stop !)) (look ! 27 refl)) (and-then ! (load ! (from ! (stop !)) (look ! 25 refl)) (and-then ! (load ! (from ! (stop !)) (look ! 55 refl)) (no-more !)))))))) (λ v.
         use1 W (later (some (λ (r : Next). (‵ ftrue ⊛ ‵ (N.the-row .own r (v ∷ []))) ⊛ raw (ensured 𝓤 H A next-of.ended (next-of.clauses 𝓤 H A at-mem run) tt (to-next .0 .3) tt r)))) (id⊢ 𝓤 _) $ await ! tt $ pick ! (λ r.
         split ! $ move ! (1 ∷ []) $ use1 W (raw (fact 𝓤 (Worked r))) (next-told r) $ heard ! (Worked r) (λ e. split ! $ drop ! $
         peeks ! N.the-row (Is N.the-row) (shows 𝓤 H A N.the-row) r (v ∷ []) (λ is.
-        land ! (from ! (stop !)) (init ! 47 refl (LL.lawful N.the-type N′.the-laws 𝓤 H A W .typed r _ is .0)) $
-        rewrite ! 47 (λ (u : Val). ‵ (fat fullShare N′.mir l3 0 u)) (ap only (N′.lowers .val-is r (v ∷ []) is)) refl $ drop ! $
+        land ! (from ! (stop !)) (init ! 53 refl (LL.lawful N.the-type N′.the-laws 𝓤 H A W .typed r _ is .0)) $
+        rewrite ! 53 (λ (u : Val). ‵ (fat fullShare N′.mir l3 0 u)) (ap only (N′.lowers .val-is r (v ∷ []) is)) refl $ drop ! $
         -- the four bytes are read: the field's address, the place in it, the byte there
-        assigns ! (of-opd ! (load ! (from ! (fld ! refl (stop !))) (look-in ! 46 (sub ! 2 refl (whole !))))) (from ! (stop !)) (init ! 44 refl (tt, record { fits = LL.owed N.the-type N′.the-laws r (v ∷ []) is .1 .1 .0 .1 })) $
-        assigns ! (addr ! (from ! (hop ! (look ! 50 refl) (fld ! refl (stop !))))) (from ! (stop !)) (init ! 22 refl (tt, tt)) $
-        assigns ! (bin ! (load ! (from ! (stop !)) (look ! 22 refl)) (load ! (from ! (stop !)) (look ! 44 refl)) tt) (from ! (stop !)) (init ! 20 refl (tt, tt)) $
+        assigns ! (of-opd ! (load ! (from ! (fld ! refl (stop !))) (look-in ! 52 (sub ! 2 refl (whole !))))) (from ! (stop !)) (init ! 50 refl (tt, record { fits = LL.owed N.the-type N′.the-laws r (v ∷ []) is .1 .1 .0 .1 })) $
+        assigns ! (addr ! (from ! (hop ! (look ! 56 refl) (fld ! refl (stop !))))) (from ! (stop !)) (init ! 22 refl (tt, tt)) $
+        assigns ! (bin ! (load ! (from ! (stop !)) (look ! 22 refl)) (load ! (from ! (stop !)) (look ! 50 refl)) tt) (from ! (stop !)) (init ! 20 refl (tt, tt)) $
         assigns ! (of-opd ! (load ! (from ! (hop ! (look ! 20 refl) (stop !))) (look-in ! 0 (byte ! (h .table) (r .at) (lies h _ was .size) (omega (arith, reads-in h n r e, lies h _ was .size)) (sub ! 7 refl (whole !)))))) (from ! (stop !)) (store ! 26 refl (tt, record { fits = lies h _ was .cell (r .at) (omega (arith, reads-in h n r e)) })) $
-        assigns ! (of-opd ! (load ! (from ! (stop !)) (look ! 26 refl))) (from ! (stop !)) (init ! 42 refl (tt, record { fits = lies h _ was .cell (r .at) (omega (arith, reads-in h n r e)) })) $
-        assigns ! (bin ! (load ! (from ! (stop !)) (look ! 44 refl)) (lit ! tt) (record { fits = omega (arith, reads-in h n r e) })) (from ! (stop !)) (init ! 18 refl (tt, record { fits = omega (arith, reads-in h n r e) })) $
-        assigns ! (addr ! (from ! (hop ! (look ! 50 refl) (fld ! refl (stop !))))) (from ! (stop !)) (init ! 16 refl (tt, tt)) $
+        assigns ! (of-opd ! (load ! (from ! (stop !)) (look ! 26 refl))) (from ! (stop !)) (init ! 48 refl (tt, record { fits = lies h _ was .cell (r .at) (omega (arith, reads-in h n r e)) })) $
+        assigns ! (bin ! (load ! (from ! (stop !)) (look ! 50 refl)) (lit ! tt) (record { fits = omega (arith, reads-in h n r e) })) (from ! (stop !)) (init ! 18 refl (tt, record { fits = omega (arith, reads-in h n r e) })) $
+        assigns ! (addr ! (from ! (hop ! (look ! 56 refl) (fld ! refl (stop !))))) (from ! (stop !)) (init ! 16 refl (tt, tt)) $
         assigns ! (bin ! (load ! (from ! (stop !)) (look ! 16 refl)) (load ! (from ! (stop !)) (look ! 18 refl)) tt) (from ! (stop !)) (init ! 14 refl (tt, tt)) $
         assigns ! (of-opd ! (load ! (from ! (hop ! (look ! 14 refl) (stop !))) (look-in ! 0 (byte ! (h .table) (r .at + 1) (lies h _ was .size) (omega (arith, reads-in h n r e, lies h _ was .size)) (sub ! 7 refl (whole !)))))) (from ! (stop !)) (store ! 24 refl (tt, record { fits = lies h _ was .cell (r .at + 1) (omega (arith, reads-in h n r e)) })) $
-        assigns ! (of-opd ! (load ! (from ! (stop !)) (look ! 24 refl))) (from ! (stop !)) (init ! 40 refl (tt, record { fits = lies h _ was .cell (r .at + 1) (omega (arith, reads-in h n r e)) })) $
-        assigns ! (bin ! (load ! (from ! (stop !)) (look ! 44 refl)) (lit ! tt) (record { fits = omega (arith, reads-in h n r e) })) (from ! (stop !)) (store ! 18 refl (tt, record { fits = omega (arith, reads-in h n r e) })) $
-        assigns ! (addr ! (from ! (hop ! (look ! 50 refl) (fld ! refl (stop !))))) (from ! (stop !)) (init ! 12 refl (tt, tt)) $
+        assigns ! (of-opd ! (load ! (from ! (stop !)) (look ! 24 refl))) (from ! (stop !)) (init ! 46 refl (tt, record { fits = lies h _ was .cell (r .at + 1) (omega (arith, reads-in h n r e)) })) $
+        assigns ! (bin ! (load ! (from ! (stop !)) (look ! 50 refl)) (lit ! tt) (record { fits = omega (arith, reads-in h n r e) })) (from ! (stop !)) (store ! 18 refl (tt, record { fits = omega (arith, reads-in h n r e) })) $
+        assigns ! (addr ! (from ! (hop ! (look ! 56 refl) (fld ! refl (stop !))))) (from ! (stop !)) (init ! 12 refl (tt, tt)) $
         assigns ! (bin ! (load ! (from ! (stop !)) (look ! 12 refl)) (load ! (from ! (stop !)) (look ! 18 refl)) tt) (from ! (stop !)) (init ! 10 refl (tt, tt)) $
         assigns ! (of-opd ! (load ! (from ! (hop ! (look ! 10 refl) (stop !))) (look-in ! 0 (byte ! (h .table) (r .at + 2) (lies h _ was .size) (omega (arith, reads-in h n r e, lies h _ was .size)) (sub ! 7 refl (whole !)))))) (from ! (stop !)) (store ! 26 refl (tt, record { fits = lies h _ was .cell (r .at + 2) (omega (arith, reads-in h n r e)) })) $
-        assigns ! (of-opd ! (load ! (from ! (stop !)) (look ! 26 refl))) (from ! (stop !)) (init ! 38 refl (tt, record { fits = lies h _ was .cell (r .at + 2) (omega (arith, reads-in h n r e)) })) $
-        assigns ! (bin ! (load ! (from ! (stop !)) (look ! 44 refl)) (lit ! tt) (record { fits = omega (arith, reads-in h n r e) })) (from ! (stop !)) (store ! 18 refl (tt, record { fits = omega (arith, reads-in h n r e) })) $
-        assigns ! (addr ! (from ! (hop ! (look ! 50 refl) (fld ! refl (stop !))))) (from ! (stop !)) (init ! 8 refl (tt, tt)) $
+        assigns ! (of-opd ! (load ! (from ! (stop !)) (look ! 26 refl))) (from ! (stop !)) (init ! 44 refl (tt, record { fits = lies h _ was .cell (r .at + 2) (omega (arith, reads-in h n r e)) })) $
+        assigns ! (bin ! (load ! (from ! (stop !)) (look ! 50 refl)) (lit ! tt) (record { fits = omega (arith, reads-in h n r e) })) (from ! (stop !)) (store ! 18 refl (tt, record { fits = omega (arith, reads-in h n r e) })) $
+        assigns ! (addr ! (from ! (hop ! (look ! 56 refl) (fld ! refl (stop !))))) (from ! (stop !)) (init ! 8 refl (tt, tt)) $
         assigns ! (bin ! (load ! (from ! (stop !)) (look ! 8 refl)) (load ! (from ! (stop !)) (look ! 18 refl)) tt) (from ! (stop !)) (init ! 6 refl (tt, tt)) $
         assigns ! (of-opd ! (load ! (from ! (hop ! (look ! 6 refl) (stop !))) (look-in ! 0 (byte ! (h .table) (r .at + 3) (lies h _ was .size) (omega (arith, reads-in h n r e, lies h _ was .size)) (sub ! 7 refl (whole !)))))) (from ! (stop !)) (store ! 24 refl (tt, record { fits = lies h _ was .cell (r .at + 3) (omega (arith, reads-in h n r e)) })) $
-        assigns ! (of-opd ! (load ! (from ! (stop !)) (look ! 24 refl))) (from ! (stop !)) (init ! 36 refl (tt, record { fits = lies h _ was .cell (r .at + 3) (omega (arith, reads-in h n r e)) })) $
+        assigns ! (of-opd ! (load ! (from ! (stop !)) (look ! 24 refl))) (from ! (stop !)) (init ! 42 refl (tt, record { fits = lies h _ was .cell (r .at + 3) (omega (arith, reads-in h n r e)) })) $
         -- last, position and age are stored
-        assigns ! (of-opd ! (load ! (from ! (fld ! refl (stop !))) (look-in ! 46 (sub ! 0 refl (whole !))))) (from ! (hop ! (look ! 50 refl) (fld ! refl (stop !)))) (store-in ! 0 (sub ! 0 refl (whole !)) (tt, record { fits = LL.owed N.the-type N′.the-laws r (v ∷ []) is .0 .1 })) $
-        assigns ! (of-opd ! (load ! (from ! (fld ! refl (stop !))) (look-in ! 46 (sub ! 3 refl (whole !))))) (from ! (hop ! (look ! 50 refl) (fld ! refl (stop !)))) (store-in ! 0 (sub ! 2 refl (whole !)) (tt, record { fits = LL.owed N.the-type N′.the-laws r (v ∷ []) is .1 .1 .1 .0 .1 })) $
-        assigns ! (of-opd ! (load ! (from ! (fld ! refl (stop !))) (look-in ! 46 (sub ! 4 refl (whole !))))) (from ! (hop ! (look ! 50 refl) (fld ! refl (stop !)))) (store-in ! 0 (sub ! 3 refl (whole !)) (tt, record { fits = LL.owed N.the-type N′.the-laws r (v ∷ []) is .1 .1 .1 .1 .0 .1 })) $
+        assigns ! (of-opd ! (load ! (from ! (fld ! refl (stop !))) (look-in ! 52 (sub ! 0 refl (whole !))))) (from ! (hop ! (look ! 56 refl) (fld ! refl (stop !)))) (store-in ! 0 (sub ! 0 refl (whole !)) (tt, record { fits = LL.owed N.the-type N′.the-laws r (v ∷ []) is .0 .1 })) $
+        assigns ! (of-opd ! (load ! (from ! (fld ! refl (fld ! refl (stop !)))) (look-in ! 52 (sub ! 0 refl (sub ! 3 refl (whole !)))))) (from ! (hop ! (look ! 56 refl) (fld ! refl (stop !)))) (store-in ! 0 (sub ! 2 refl (whole !)) (tt, record { fits = number-is (LL.owed N.the-type N′.the-laws r (v ∷ []) is .1 .1 .1 .0) .1 })) $
+        assigns ! (of-opd ! (load ! (from ! (fld ! refl (fld ! refl (stop !)))) (look-in ! 52 (sub ! 0 refl (sub ! 4 refl (whole !)))))) (from ! (hop ! (look ! 56 refl) (fld ! refl (stop !)))) (store-in ! 0 (sub ! 3 refl (whole !)) (tt, record { fits = number-is (LL.owed N.the-type N′.the-laws r (v ∷ []) is .1 .1 .1 .1 .0) .1 })) $
         -- m, n and the offsets are copied out, and `clock::answer` is called
-        assigns ! (of-opd ! (load ! (from ! (hop ! (look ! 50 refl) (fld ! refl (stop !)))) (look-in ! 0 (sub ! 5 refl (whole !))))) (from ! (stop !)) (store ! 26 refl (tt, record { fits = lies h _ was .m })) $
-        assigns ! (of-opd ! (load ! (from ! (hop ! (look ! 50 refl) (fld ! refl (stop !)))) (look-in ! 0 (sub ! 6 refl (whole !))))) (from ! (stop !)) (store ! 24 refl (tt, record { fits = lies h _ was .n })) $
-        assigns ! (of-opd ! (load ! (from ! (hop ! (look ! 50 refl) (fld ! refl (stop !)))) (look-in ! 0 (sub ! 4 refl (whole !))))) (from ! (stop !)) (init ! 4 refl (array-lawful 𝓤 H A W u16 (uint-lawful 𝓤 H A W w16) 16 .typed (h .offsets) _ (lies h _ was .offsets) .0)) $
+        assigns ! (of-opd ! (load ! (from ! (hop ! (look ! 56 refl) (fld ! refl (stop !)))) (look-in ! 0 (sub ! 5 refl (whole !))))) (from ! (stop !)) (store ! 26 refl (tt, record { fits = lies h _ was .m })) $
+        assigns ! (of-opd ! (load ! (from ! (hop ! (look ! 56 refl) (fld ! refl (stop !)))) (look-in ! 0 (sub ! 6 refl (whole !))))) (from ! (stop !)) (store ! 24 refl (tt, record { fits = lies h _ was .n })) $
+        assigns ! (of-opd ! (load ! (from ! (hop ! (look ! 56 refl) (fld ! refl (stop !)))) (look-in ! 0 (sub ! 4 refl (whole !))))) (from ! (stop !)) (init ! 4 refl (array-lawful 𝓤 H A W u16 (uint-lawful 𝓤 H A W w16) 16 .typed (h .offsets) _ (lies h _ was .offsets) .0)) $
         use0 W (raw (Answer 𝓤 H A at-mem run .pre (to-answer r))) (goes-answer r (lies h _ was) (subst (Is N.the-row r) (N′.lowers .val-is r (v ∷ []) is) is) (reads-in h n r e)) $
-        calls-at ! fm (Answer 𝓤 H A at-mem run) known-answer (to-answer r) (and-then ! (load ! (from ! (stop !)) (look ! 47 refl)) (and-then ! (load ! (from ! (stop !)) (look ! 27 refl)) (and-then ! (load ! (from ! (stop !)) (look ! 25 refl)) (and-then ! (load ! (from ! (stop !)) (look ! 5 refl)) (and-then ! (load ! (from ! (stop !)) (look ! 43 refl)) (and-then ! (load ! (from ! (stop !)) (look ! 41 refl)) (and-then ! (load ! (from ! (stop !)) (look ! 39 refl)) (and-then ! (load ! (from ! (stop !)) (look ! 37 refl)) (no-more !))))))))) (λ w.
+        calls-at ! fm (Answer 𝓤 H A at-mem run) known-answer (to-answer r) (and-then ! (load ! (from ! (stop !)) (look ! 53 refl)) (and-then ! (load ! (from ! (stop !)) (look ! 27 refl)) (and-then ! (load ! (from ! (stop !)) (look ! 25 refl)) (and-then ! (load ! (from ! (stop !)) (look ! 5 refl)) (and-then ! (load ! (from ! (stop !)) (look ! 49 refl)) (and-then ! (load ! (from ! (stop !)) (look ! 47 refl)) (and-then ! (load ! (from ! (stop !)) (look ! 45 refl)) (and-then ! (load ! (from ! (stop !)) (look ! 43 refl)) (no-more !))))))))) (λ w.
         use1 W (later (some (λ (s : Shown). (‵ ftrue ⊛ ‵ (S.the-row .own s (w ∷ []))) ⊛ raw (ensured 𝓤 H A answer.ended (answer.clauses 𝓤 H A at-mem run) tt (to-answer r .0 .3) tt s)))) (id⊢ 𝓤 _) $ await ! tt $ pick ! (λ s.
         split ! $ move ! (1 ∷ []) $ use1 W (raw (fact 𝓤 (Answered r s))) (answer-told r s) $ heard ! (Answered r s) (λ a. split ! $ drop ! $
         peeks ! S.the-row (Is S.the-row) (shows 𝓤 H A S.the-row) s (w ∷ []) (λ is-s.
-        land ! (from ! (stop !)) (init ! 53 refl (LL.lawful S.the-type S′.the-laws 𝓤 H A W .typed s _ is-s .0)) $ drop ! $
+        land ! (from ! (stop !)) (init ! 59 refl (LL.lawful S.the-type S′.the-laws 𝓤 H A W .typed s _ is-s .0)) $ drop ! $
         use1 W (‵ (cellAt fullShare (T.the-row .mir) (T′.lowered (stored h r) ∷ []) b o)) (W .laws .at-raw fullShare T′.mir b o (T′.lowered (stored h r))) $
         owned ! T.the-row (Is T.the-row) ((LL.makes T.the-type T′.the-plain) 𝓤 H A) (stored h r) _ (made r (v ∷ []) _ is was) $ move ! (1 ∷ 0 ∷ []) $ closes ! tt T.the-row (stored h r) (T′.lowered (stored h r) ∷ []) b o $
-        -- [obs; the borrow; the token; _24; …; _0; …]
-        returns ! (look ! 51 refl) $ forget ! 3 refl $ forget ! 5 refl $ forget ! 7 refl $ forget ! 9 refl $ forget ! 11 refl $ forget ! 13 refl $ forget ! 15 refl $ forget ! 17 refl $ forget ! 19 refl $ forget ! 21 refl $ forget ! 23 refl $ forget ! 25 refl $ forget ! 27 refl $ forget ! 29 refl $ forget ! 31 refl $ forget ! 33 refl $ forget ! 35 refl $ forget ! 37 refl $ forget ! 39 refl $ forget ! 41 refl $ forget ! 43 refl $ forget ! 45 refl $ forget ! 47 refl $ forget ! 49 refl $ forget ! 51 refl $
-        move ! (51 ∷ 52 ∷ []) $ free1 ! $ move ! (49 ∷ 50 ∷ []) $ free1 ! $ move ! (47 ∷ 48 ∷ []) $ free1 ! $ move ! (45 ∷ 46 ∷ []) $ free1 ! $ move ! (43 ∷ 44 ∷ []) $ free1 ! $ move ! (41 ∷ 42 ∷ []) $ free1 ! $ move ! (39 ∷ 40 ∷ []) $ free1 ! $ move ! (37 ∷ 38 ∷ []) $ free1 ! $ move ! (35 ∷ 36 ∷ []) $ free1 ! $ move ! (33 ∷ 34 ∷ []) $ free1 ! $ move ! (31 ∷ 32 ∷ []) $ free1 ! $ move ! (29 ∷ 30 ∷ []) $ free1 ! $ move ! (27 ∷ 28 ∷ []) $ free1 ! $ move ! (25 ∷ 26 ∷ []) $ free1 ! $ move ! (23 ∷ 24 ∷ []) $ free1 ! $ move ! (21 ∷ 22 ∷ []) $ free1 ! $ move ! (19 ∷ 20 ∷ []) $ free1 ! $ move ! (17 ∷ 18 ∷ []) $ free1 ! $ move ! (15 ∷ 16 ∷ []) $ free1 ! $ move ! (13 ∷ 14 ∷ []) $ free1 ! $ move ! (11 ∷ 12 ∷ []) $ free1 ! $ move ! (9 ∷ 10 ∷ []) $ free1 ! $ move ! (7 ∷ 8 ∷ []) $ free1 ! $ move ! (5 ∷ 6 ∷ []) $ free1 ! $ move ! (3 ∷ 4 ∷ []) $ free1 ! $ free0 ! $
-        keep ! (0 ∷ 1 ∷ 2 ∷ []) $ by ! (exits r s w e a is-s))))))))))))))))))))))))))))))))))))
+        -- [obs; the borrow; the token; _27; …; _0; …]
+        returns ! (look ! 57 refl) $ forget ! 3 refl $ forget ! 5 refl $ forget ! 7 refl $ forget ! 9 refl $ forget ! 11 refl $ forget ! 13 refl $ forget ! 15 refl $ forget ! 17 refl $ forget ! 19 refl $ forget ! 21 refl $ forget ! 23 refl $ forget ! 25 refl $ forget ! 27 refl $ forget ! 29 refl $ forget ! 31 refl $ forget ! 33 refl $ forget ! 35 refl $ forget ! 37 refl $ forget ! 39 refl $ forget ! 41 refl $ forget ! 43 refl $ forget ! 45 refl $ forget ! 47 refl $ forget ! 49 refl $ forget ! 51 refl $ forget ! 53 refl $ forget ! 55 refl $ forget ! 57 refl $
+        move ! (57 ∷ 58 ∷ []) $ free1 ! $ move ! (55 ∷ 56 ∷ []) $ free1 ! $ move ! (53 ∷ 54 ∷ []) $ free1 ! $ move ! (51 ∷ 52 ∷ []) $ free1 ! $ move ! (49 ∷ 50 ∷ []) $ free1 ! $ move ! (47 ∷ 48 ∷ []) $ free1 ! $ move ! (45 ∷ 46 ∷ []) $ free1 ! $ move ! (43 ∷ 44 ∷ []) $ free1 ! $ move ! (41 ∷ 42 ∷ []) $ free1 ! $ move ! (39 ∷ 40 ∷ []) $ free1 ! $ move ! (37 ∷ 38 ∷ []) $ free1 ! $ move ! (35 ∷ 36 ∷ []) $ free1 ! $ move ! (33 ∷ 34 ∷ []) $ free1 ! $ move ! (31 ∷ 32 ∷ []) $ free1 ! $ move ! (29 ∷ 30 ∷ []) $ free1 ! $ move ! (27 ∷ 28 ∷ []) $ free1 ! $ move ! (25 ∷ 26 ∷ []) $ free1 ! $ move ! (23 ∷ 24 ∷ []) $ free1 ! $ move ! (21 ∷ 22 ∷ []) $ free1 ! $ move ! (19 ∷ 20 ∷ []) $ free1 ! $ move ! (17 ∷ 18 ∷ []) $ free1 ! $ move ! (15 ∷ 16 ∷ []) $ free1 ! $ move ! (13 ∷ 14 ∷ []) $ free1 ! $ move ! (11 ∷ 12 ∷ []) $ free1 ! $ move ! (9 ∷ 10 ∷ []) $ free1 ! $ move ! (7 ∷ 8 ∷ []) $ free1 ! $ move ! (5 ∷ 6 ∷ []) $ free1 ! $ move ! (3 ∷ 4 ∷ []) $ free1 ! $ free0 ! $
+        keep ! (0 ∷ 1 ∷ 2 ∷ []) $ by ! (exits r s w e a is-s)))))))))))))))))))))))))))))))))))))))
 
 module _ {M : Type 1} (𝓤 : URA M) (H : Heap 𝓤) (A : Atoms 𝓤) (W : Given 𝓤 H A) (at-mem : Memory → SProp 𝓤) (run : Routine → Fun 𝓤) (𝓣 : Tables 𝓤 H) (known-next : Triple 𝓤 (𝓣 .C #clock·next-of) (NextOf 𝓤 H A at-mem run)) (known-answer : Triple 𝓤 (𝓣 .C #clock·answer) (Answer 𝓤 H A at-mem run)) where
   f-walks : Walks 𝓤 H A f.ended stayed (WpFn 𝓤 H (𝓣 .C) (𝓣 .Λ) code.function) (f.clauses 𝓤 H A at-mem run)
