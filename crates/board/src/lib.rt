@@ -9,6 +9,7 @@
 ghost use mathlib.Core.Path.{_≡_};
 ghost use Prim.Native.Nat.{_+_, _≤_, _<_, min};
 ghost use Rattle.board.specs.Board.{counterOn, rateOn, fitOn, setsOn, twinRankOn, floorOn, settledOn, closesOn, tasksOn};
+use tasks::Work;
 
 // Where the board's parts begin.
 pub const RATES: usize = 16384;
@@ -58,16 +59,16 @@ pub fn rate(board: &[u16; 17763], task: usize, core: usize) -> u16
 }
 
 // So much work, up to 15: no rate is more.
-fn up_to_15(work: u16) -> usize
-    ensures { λ r. ⌜ (r ≡ min work 15) × (r ≤ 15) ⌝ }
+fn up_to_15(work: Work) -> usize
+    ensures { λ r. ⌜ (r ≡ min (work .0) 15) × (r ≤ 15) ⌝ }
 {
-    if work < 15 { work as usize } else { 15 }
+    if work.0 < 15 { work.0 as usize } else { 15 }
 }
 
 // The cores, as bits, on which a task has a positive rate within so much work.
-fn fit(board: &[u16; 17763], task: usize, work: u16) -> u64
+fn fit(board: &[u16; 17763], task: usize, work: Work) -> u64
     requires { ⌜ task < 16 ⌝ }
-    ensures { λ r. ⌜ (r ≡ fitOn (now (board .entry)) task work) × (r < 16) ⌝ }
+    ensures { λ r. ⌜ (r ≡ fitOn (now (board .entry)) task (work .0)) × (r < 16) ⌝ }
 {
     (board[FITS + (task * 16 + up_to_15(work))] % 16) as u64
 }
@@ -81,7 +82,7 @@ pub fn enter(board: &[u16; 17763], left: &[u16; 32768], slot: usize) -> u64
     let mut sets: u64 = 0;
     while 0 < task {
         task -= 1;
-        let work = left[counter(board, slot, task)];
+        let work = Work(left[counter(board, slot, task)]);
         sets = sets::pushed(sets, fit(board, task, work));
     }
     sets
@@ -128,7 +129,8 @@ fn settled(board: &[u16; 17763], left: &[u16; 32768], slot: usize, task: usize) 
     if entry % 2 == 0 {
         return true;
     }
-    left[counter(board, slot, task)] == 0
+    let work = Work(left[counter(board, slot, task)]);
+    work.0 == 0
 }
 
 // Whether each job whose highest-numbered slot this is has no work left.

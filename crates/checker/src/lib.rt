@@ -45,7 +45,7 @@ fn cell_effect(list: TaskList, len: Slots, m: u8, table: &[u8], slot: u16, core:
     let place = value - 1;
     let task = tasks::task_at(list, place as usize);
     let rates = task.rates.0;
-    let rate = rates[core as usize];
+    let rate = rates[core as usize] as u16;
     let opens = windows::is_open(len, task, Slots(slot));
     let fault = faults::kind(opens, 0 < rate, faults::free(table, first, core, value));
     if fault != 0 {

@@ -1,6 +1,6 @@
 // Tasks: their numbers and ranges, refusals 1 to 8, and the length of the table.
 ghost use mathlib.Core.Path.{_≡_};
-ghost use Prim.Native.Nat.{_≤_, _<_};
+ghost use Prim.Native.Nat.{_*_, _≤_, _<_};
 ghost use Rattle.tasks.specs.Task.{taskAt, rows, added, workIn};
 ghost use Rattle.tasks.specs.Refusal.{within as withinOf, ratesFit, taskRefusal, listRefusal, Periods, lengthOf, testedAs, tested};
 
@@ -65,12 +65,11 @@ pub struct TaskList {
 }
 
 // What a core of this rate does in so many slots.
-pub fn work_in(rate: u8, slots: Slots) -> Work
-    requires { ⌜ (rate ≤ 15) × (slots .0 ≤ 1024) ⌝ }
+pub fn work_in(rate: u16, slots: Slots) -> Work
+    requires { ⌜ rate * slots .0 ≤ 65535 ⌝ }
     ensures { λ r. ⌜ r ≡ workIn rate slots ⌝ }
 {
-    let n = slots.0;
-    Work((rate as u16) * n)
+    Work(rate * slots.0)
 }
 
 // The task at place i of a list, from 0.

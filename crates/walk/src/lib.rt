@@ -19,6 +19,9 @@ use board::enter;
 use board::floor;
 use board::rate;
 use board::wide;
+use tasks::Slots;
+use tasks::Work;
+use tasks::work_in;
 
 // The tries are counted up to here.
 pub const FULL: u32 = 4294967295;
@@ -28,29 +31,34 @@ pub const FOUND: u64 = 4294967296;
 
 pub const STOPPED: u64 = 8589934592;
 
-// The work left after a rate; 0 where the rate is more.
-fn less(work: u16, rate: u16) -> u16
-    ensures { λ r. ⌜ r ≡ work - rate ⌝ }
+// The work left after some is done; 0 where that is more.
+fn less(work: Work, done: Work) -> Work
+    ensures { λ r. ⌜ r .0 ≡ work .0 - done .0 ⌝ }
 {
-    if work < rate { 0 } else { work - rate }
+    if work.0 < done.0 {
+        Work(0)
+    } else {
+        Work(work.0 - done.0)
+    }
 }
 
-// Takes a rate off a counter of work left, and gives what it was.
-fn put(left: &mut [u16; 32768], counter: usize, rate: u16) -> u16
+// Takes what a core of this rate does in a slot off a counter of work left, and gives what it was.
+fn put(left: &mut [u16; 32768], counter: usize, rate: u16) -> Work
     requires { ⌜ counter < 32768 ⌝ }
-    ensures { λ r. ⌜ (r ≡ nth (now (left .entry)) counter) × (now (left .exit) ≡ set (now (left .entry)) counter (nth (now (left .entry)) counter - rate)) ⌝ }
+    ensures { λ r. ⌜ (r .0 ≡ nth (now (left .entry)) counter) × (now (left .exit) ≡ set (now (left .entry)) counter (nth (now (left .entry)) counter - rate)) ⌝ }
 {
-    let had = left[counter];
-    left[counter] = less(had, rate);
+    let had = Work(left[counter]);
+    let work = less(had, work_in(rate, Slots(1)));
+    left[counter] = work.0;
     had
 }
 
 // Gives a counter back what it was.
-fn take_back(left: &mut [u16; 32768], counter: usize, had: u16)
+fn take_back(left: &mut [u16; 32768], counter: usize, had: Work)
     requires { ⌜ counter < 32768 ⌝ }
-    ensures { λ _. ⌜ now (left .exit) ≡ set (now (left .entry)) counter had ⌝ }
+    ensures { λ _. ⌜ now (left .exit) ≡ set (now (left .entry)) counter (had .0) ⌝ }
 {
-    left[counter] = had;
+    left[counter] = had.0;
 }
 
 // Tries each value in the cell of a place, in order: the tasks that may stand there, and then idle.

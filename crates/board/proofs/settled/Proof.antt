@@ -9,7 +9,7 @@ returns : tie.Need-returns
 returns c = settled-open _ _ _ _ (c .if1 .taken)
 
 returns-2 : tie.Need-returns-2
-returns-2 c = settled-end _ _ _ _ _ (c .before .before .if1 .left) (c .before .counter .ensures .0)
+returns-2 c = settled-end _ _ _ _ _ (c .before .before .before .if1 .left) (c .before .before .counter .ensures .0)
 
 pub settled-spec : {M : Type 1} → statement M
 settled-spec = tie.close (tie.spec

@@ -27,6 +27,9 @@ task-at-requires c κs = omega (arith, few-listed (c .before .before .before .be
 array-read-rate : tie.Need-array-read-rate
 array-read-rate c = let s = c .before .before .before .before .before .before .before in omega (arith, few-cores (s .pre .ready), s .pre .core-in)
 
+cast-rate : tie.Need-cast-rate
+cast-rate c = omega (arith, rate-few (c .before .before .before .before .before .before .before .pre) (c .before .before .before .before .if1 .left) (c .before .before .if2 .left) (c .before .task-at .ensures))
+
 is-open-requires : tie.Need-is-open-requires
 is-open-requires c κs = window-ready (c .before .before .before .before .before .before .before .pre) (c .before .before .before .before .if1 .left) (c .before .before .if2 .left) (c .before .task-at .ensures)
 
@@ -42,7 +45,7 @@ job-at-requires : tie.Need-job-at-requires
 job-at-requires c κs = window-ready (c .before .before .before .before .before .before .before .before .before .before .before .pre) (c .before .before .before .before .before .before .before .before .if1 .left) (c .before .before .before .before .before .before .if2 .left) (c .before .before .before .before .before .task-at .ensures)
 
 work-in-requires : tie.Need-work-in-requires
-work-in-requires c κs = (rate-few (c .before .before .before .before .before .before .before .before .before .before .before .before .before .pre) (c .before .before .before .before .before .before .before .before .before .before .if1 .left) (c .before .before .before .before .before .before .before .before .if2 .left) (c .before .before .before .before .before .before .before .task-at .ensures), omega arith)
+work-in-requires c κs = omega (arith, rate-few (c .before .before .before .before .before .before .before .before .before .before .before .before .before .pre) (c .before .before .before .before .before .before .before .before .before .before .if1 .left) (c .before .before .before .before .before .before .before .before .if2 .left) (c .before .before .before .before .before .before .before .task-at .ensures))
 
 returns-4 : tie.Need-returns-4
 returns-4 c =
@@ -51,5 +54,5 @@ returns-4 c =
 
 pub cell-effect-spec : {M : Type 1} → statement M
 cell-effect-spec = tie.close (tie.spec
-    mul-first add-value shared-slice-read-value returns returns-2 (λ c. search needs) (λ c. search needs) task-at-requires array-read-rate
+    mul-first add-value shared-slice-read-value returns returns-2 (λ c. search needs) (λ c. search needs) task-at-requires array-read-rate cast-rate
     is-open-requires free-requires (λ c κs. search needs) returns-3 job-at-requires (λ c κs. search needs) work-in-requires returns-4)
