@@ -10,8 +10,8 @@ use lib.ListN.{length}
 use Rattle.laws.specs.Lists.{nth}
 use Rattle.laws.proofs.SumLaws.{lt-or-ge}
 use Rattle.tasks.specs.declared.Task.{Task}
-use Rattle.tasks.specs.Refusal.{refusal, tableLength, IsSound}
-use Rattle.tasks.specs.Instance.{Instance, instanceOf}
+use Rattle.tasks.specs.Refusal.{refusal, IsSound}
+use Rattle.tasks.specs.Instance.{Instance, instanceOf, ownInstance}
 use Rattle.tasks.proofs.SoundLaws.{sound-list}
 use Rattle.table.specs.Table.{cells, Valid}
 use Rattle.table.specs.Fault.{Fault, noFault, inCell, inJob, fault, Checked, refused, checked, check}
@@ -32,21 +32,17 @@ pub record Names (P : Instance) (f : ℕ → ℕ) (x : Fault) : Type 0 where
   -- a job that is named is the first faulty one, and no cell is faulty
   pub first-job : (i k kind : ℕ) → x ≡ inJob i k kind → FirstJob P f i k kind
 
--- what a table of a list is planned for
-abbrev pub planFor : ℕ → List Task → Instance
-planFor m ts = instanceOf (tableLength ts) m ts
-
 -- what is told of a buffer t for a list
 pub record Tells (m : ℕ) (ts : List Task) (t : List ℕ) (x : Checked) : Type 0 where
   -- valid exactly if the list is sound, the buffer is not shorter than H × m, and the table meets C1 to C4
-  pub valid-exact : (x ≡ checked noFault) ↔ (IsSound m ts × (cells (planFor m ts) ≤ length t) × Valid (planFor m ts) (nth t))
+  pub valid-exact : (x ≡ checked noFault) ↔ (IsSound m ts × (cells (ownInstance m ts) ≤ length t) × Valid (ownInstance m ts) (nth t))
   -- a cell that is named is the first faulty one
-  pub names-cell : (s j kind : ℕ) → x ≡ checked (inCell s j kind) → FirstCell (planFor m ts) (nth t) s j kind
+  pub names-cell : (s j kind : ℕ) → x ≡ checked (inCell s j kind) → FirstCell (ownInstance m ts) (nth t) s j kind
   -- a job that is named is the first faulty one, and no cell is faulty
-  pub names-job : (i k kind : ℕ) → x ≡ checked (inJob i k kind) → FirstJob (planFor m ts) (nth t) i k kind
+  pub names-job : (i k kind : ℕ) → x ≡ checked (inJob i k kind) → FirstJob (ownInstance m ts) (nth t) i k kind
   -- a refusal is the list's, or 10 if the list is sound and the buffer is shorter
   pub refuses-exact : (r : ℕ) → (x ≡ refused r)
-      ↔ (((r ≡ refusal m ts) × (r ≢ 0)) ⊎ ((r ≡ 10) × IsSound m ts × (length t < cells (planFor m ts))))
+      ↔ (((r ≡ refusal m ts) × (r ≢ 0)) ⊎ ((r ≡ 10) × IsSound m ts × (length t < cells (ownInstance m ts))))
 
 -- ---- proofs
 -- what the definition names
@@ -79,7 +75,7 @@ module _ (m : ℕ) (ts : List Task) (t : List ℕ) where
 
   module _ (sound : IsSound m ts) where
     -- a buffer that is too short
-    short-tells : length t < cells (planFor m ts) → Tells m ts t (refused 10)
+    short-tells : length t < cells (ownInstance m ts) → Tells m ts t (refused 10)
     short-tells l = record {
       valid-exact = (λ e. absurd (refused-not e), λ v. absurd (omega (arith, v .1)));
       names-cell = λ s j kind e. absurd (refused-not e);
@@ -91,7 +87,7 @@ module _ (m : ℕ) (ts : List Task) (t : List ℕ) where
     }
 
     -- a table
-    table-tells : cells (planFor m ts) ≤ length t → Tells m ts t (checked (fault (planFor m ts) (nth t)))
+    table-tells : cells (ownInstance m ts) ≤ length t → Tells m ts t (checked (fault (ownInstance m ts) (nth t)))
     unfolding instanceOf
     table-tells l = record {
       valid-exact = (λ e. (sound, l, n .none-exact .0 (cc)), λ v. ap checked (n .none-exact .1 (v .2)));
@@ -103,8 +99,8 @@ module _ (m : ℕ) (ts : List Task) (t : List ℕ) where
       );
     }
       where
-        n : Names (planFor m ts) (nth t) (fault (planFor m ts) (nth t))
-        n = names (planFor m ts) (nth t) (sound-list m ts sound .some-core)
+        n : Names (ownInstance m ts) (nth t) (fault (ownInstance m ts) (nth t))
+        n = names (ownInstance m ts) (nth t) (sound-list m ts sound .some-core)
 
   -- what the checker tells, for every list, every number of cores and every buffer
   pub tells : Tells m ts t (check m ts t)
@@ -113,7 +109,7 @@ module _ (m : ℕ) (ts : List Task) (t : List ℕ) where
     | yes e ↦ ⊎-elim
         (λ l. rw (check-short m ts t e l) (short-tells e l))
         (λ l. rw (check-long m ts t e l) (table-tells e l))
-        (lt-or-ge (length t) (cells (planFor m ts)))
+        (lt-or-ge (length t) (cells (ownInstance m ts)))
   ]
 
 -- so does the answer of a call

@@ -21,7 +21,7 @@ use Rattle.tasks.specs.declared.Soundness.{Soundness}
 use Rattle.tasks.specs.declared.Soundness.the-variants.{Sound, Refused as NotSound}
 use Rattle.tasks.specs.Task.{task, rows}
 use Rattle.tasks.specs.Refusal.{unless, orNext, refusal, tableLength, IsSound, testedAs, tested, Periods}
-use Rattle.tasks.specs.Instance.{Instance, instanceOf}
+use Rattle.tasks.specs.Instance.{Instance, instanceOf, ownInstance}
 use Rattle.tasks.proofs.SoundLaws.{sound-list}
 use Rattle.tasks.proofs.AnswerLaws.{tested-sound, tested-refused}
 use Rattle.table.specs.Table.{cells, done}
@@ -40,20 +40,20 @@ module _ (m : ℕ) (ts : List Task) (t : List ℕ) where
   unfolding check orNext
   check-refused x = rw (ne-eqb (refusal m ts) 0 x) (go (refusal m ts) x)
     where
-      go : (r : ℕ) → r ≢ 0 → checkedIf r (fault (instanceOf (tableLength ts) m ts) (nth t)) ≡ refused r
+      go : (r : ℕ) → r ≢ 0 → checkedIf r (fault (ownInstance m ts) (nth t)) ≡ refused r
       go zero x = absurd (x refl)
       go (suc r) x = refl
 
   module _ (sound : IsSound m ts) where
     -- 10
-    pub check-short : length t < cells (instanceOf (tableLength ts) m ts) → check m ts t ≡ refused 10
+    pub check-short : length t < cells (ownInstance m ts) → check m ts t ≡ refused 10
     unfolding check orNext unless
-    check-short l = rw (sound, lt-leb (cells (instanceOf (tableLength ts) m ts)) (length t) l)
+    check-short l = rw (sound, lt-leb (cells (ownInstance m ts)) (length t) l)
 
     -- none
-    pub check-long : cells (instanceOf (tableLength ts) m ts) ≤ length t → check m ts t ≡ checked (fault (instanceOf (tableLength ts) m ts) (nth t))
+    pub check-long : cells (ownInstance m ts) ≤ length t → check m ts t ≡ checked (fault (ownInstance m ts) (nth t))
     unfolding check orNext unless
-    check-long l = rw (sound, le-leb (cells (instanceOf (tableLength ts) m ts)) (length t) l)
+    check-long l = rw (sound, le-leb (cells (ownInstance m ts)) (length t) l)
 
 -- ---- cells, then jobs
 module _ (P : Instance) (f : ℕ → ℕ) where

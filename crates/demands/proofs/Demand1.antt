@@ -19,7 +19,7 @@ use Rattle.tasks.specs.declared.Task.{Task}
 use Rattle.tasks.specs.Task.{rate, task}
 use Rattle.tasks.specs.Refusal.{within, unless, orNext, mostRate, ratesFit, taskRefusal, listRefusal, tableLength, refusal, IsSound}
 use Rattle.tasks.proofs.SoundLaws.{within-is, rates-at, sound-list}
-use Rattle.tasks.specs.Instance.{instanceOf}
+use Rattle.tasks.specs.Instance.{instanceOf, ownInstance}
 use Rattle.table.specs.Table.{cells, Valid}
 use Rattle.table.specs.Fault.{Fault, noFault, inCell, inJob, fault}
 use Rattle.lines.specs.Lines.{digits, lineOf}
@@ -35,7 +35,7 @@ use Rattle.checker.specs.declared.Verdict.the-variants.{Refused}
 use Rattle.checker.proofs.TellLaws.{check-refused, check-short, check-long}
 use Rattle.checker.specs.Checks.{toldOf as checkedAs}
 use Rattle.checker.proofs.Calls.{told-only}
-use Rattle.checker.proofs.Demand2.{planFor, names, answer-tells}
+use Rattle.checker.proofs.Demand2.{names, answer-tells}
 use Rattle.clock.specs.declared.Shown.{Shown}
 use Rattle.clock.specs.declared.Next.{Next}
 use Rattle.clock.specs.Clock.{elapsedOf, stepRefusal, advanced, nextIf, nextOf, answerOr}
@@ -47,7 +47,7 @@ use Rattle.player.proofs.Demand2.{start-verdict}
 use Rattle.player.proofs.Calls.{Step}
 use Rattle.planner.specs.Answer.{searchAnswer, answerOf, answerTo}
 use Rattle.planner.proofs.Calls.{Plan, Check, Start, PlanText}
-use Rattle.tasks.proofs.AnswerLaws.{unless-yes, unless-no, rates-over, rates-under, or-first, or-next}
+use Rattle.tasks.proofs.AnswerLaws.{unless-yes, unless-no, rates-under, or-first, or-next}
 
 -- ---- statements
 -- low..high, and not
@@ -80,16 +80,16 @@ pub data OfList (m : ℕ) (ts : List Task) : ℕ → Type 0 where
 -- the refusal of a start, 0 for none: the list's; 10; 11
 pub data OfStart (m : ℕ) (ts : List Task) (t : List ℕ) : ℕ → Type 0 where
   of-list : {k : ℕ} → k ≢ 0 → OfList m ts k → OfStart m ts t k
-  short : OfList m ts 0 → length t < cells (planFor m ts) → OfStart m ts t 10
-  invalid : OfList m ts 0 → cells (planFor m ts) ≤ length t → (Valid (planFor m ts) (nth t) → ⊥) → OfStart m ts t 11
-  none : OfList m ts 0 → cells (planFor m ts) ≤ length t → Valid (planFor m ts) (nth t) → OfStart m ts t 0
+  short : OfList m ts 0 → length t < cells (ownInstance m ts) → OfStart m ts t 10
+  invalid : OfList m ts 0 → cells (ownInstance m ts) ≤ length t → (Valid (ownInstance m ts) (nth t) → ⊥) → OfStart m ts t 11
+  none : OfList m ts 0 → cells (ownInstance m ts) ≤ length t → Valid (ownInstance m ts) (nth t) → OfStart m ts t 0
 
 -- the refusal of a search, 0 for none: the list's; 9; 10
 pub data OfSearch (m : ℕ) (ts : List Task) (e : ℕ) (t : List ℕ) : ℕ → Type 0 where
   of-list : {k : ℕ} → k ≢ 0 → OfList m ts k → OfSearch m ts e t k
   engine : OfList m ts 0 → 1 < e → OfSearch m ts e t 9
-  short : OfList m ts 0 → e ≤ 1 → length t < cells (planFor m ts) → OfSearch m ts e t 10
-  none : OfList m ts 0 → e ≤ 1 → cells (planFor m ts) ≤ length t → OfSearch m ts e t 0
+  short : OfList m ts 0 → e ≤ 1 → length t < cells (ownInstance m ts) → OfSearch m ts e t 10
+  none : OfList m ts 0 → e ≤ 1 → cells (ownInstance m ts) ≤ length t → OfSearch m ts e t 0
 
 -- a record is spoilt: H not 1..1024, m not 1..4, task count not 1..16, position not below H, or age over 1024
 pub data Spoilt (p : Player) : Type 0 where
@@ -129,7 +129,7 @@ pub record PlanRefuses (ts : List Task) (m e : ℕ) (t : List ℕ) (r : Answer) 
 
 -- a call of `check`: refusals 1 to 8 and 10
 pub record CheckRefuses (ts : List Task) (m : ℕ) (t : List ℕ) (r : Verdict) : Type 0 where
-  pub exact : (k : ℕ) → (r ≡ Refused k) ↔ (((k ≢ 0) × OfList m ts k) ⊎ ((k ≡ 10) × OfList m ts 0 × (length t < cells (planFor m ts))))
+  pub exact : (k : ℕ) → (r ≡ Refused k) ↔ (((k ≢ 0) × OfList m ts k) ⊎ ((k ≡ 10) × OfList m ts 0 × (length t < cells (ownInstance m ts))))
 
 -- the text of a refusal: 05 with it as the verdict and 0 tries, then 07, and nothing else
 abbrev pub refusalText : ℕ → List ℕ
@@ -256,7 +256,7 @@ module _ (m : ℕ) (ts : List Task) where
 -- ---- a call of `start`
 module _ (m : ℕ) (ts : List Task) (t : List ℕ) where
   -- a table of a sound list is valid or not
-  of-fault : OfList m ts 0 → cells (planFor m ts) ≤ length t → (x : Fault) → (x ≡ noFault) ↔ Valid (planFor m ts) (nth t) → OfStart m ts t (faultRefusal x)
+  of-fault : OfList m ts 0 → cells (ownInstance m ts) ≤ length t → (x : Fault) → (x ≡ noFault) ↔ Valid (ownInstance m ts) (nth t) → OfStart m ts t (faultRefusal x)
   of-fault s l noFault h = none s l (h .0 refl)
   of-fault s l (inCell a b c) h = invalid s l (λ v. let z : _≡_ {A = ℕ} 0 1 = cc (h .1 v) in omega arith)
   of-fault s l (inJob a b c) h = invalid s l (λ v. let z : _≡_ {A = ℕ} 0 1 = cc (h .1 v) in omega arith)
@@ -268,8 +268,8 @@ module _ (m : ℕ) (ts : List Task) (t : List ℕ) where
     | no x ↦ rw (check-refused m ts t x) (of-list x (list-of m ts))
     | yes e ↦ ⊎-elim
         (λ l. rw (check-short m ts t e l) (short (sound-none m ts e) l))
-        (λ l. rw (check-long m ts t e l) (of-fault (sound-none m ts e) l (fault (planFor m ts) (nth t)) (names (planFor m ts) (nth t) (sound-list m ts e .some-core) .none-exact)))
-        (lt-or-ge (length t) (cells (planFor m ts)))
+        (λ l. rw (check-long m ts t e l) (of-fault (sound-none m ts e) l (fault (ownInstance m ts) (nth t)) (names (ownInstance m ts) (nth t) (sound-list m ts e .some-core) .none-exact)))
+        (lt-or-ge (length t) (cells (ownInstance m ts)))
   ]
 
   -- and the other way
@@ -277,14 +277,14 @@ module _ (m : ℕ) (ts : List Task) (t : List ℕ) where
   unfolding instanceOf
   start-is (of-list x h) = let e = list-is m ts h in ap checkRefusal (check-refused m ts t (λ z. x (sym e ∙ z))) ∙ e
   start-is (short s l) = ap checkRefusal (check-short m ts t (list-is m ts s) l)
-  start-is (invalid s l x) = ap checkRefusal (check-long m ts t (list-is m ts s) l) ∙ wrong (fault (planFor m ts) (nth t)) (names (planFor m ts) (nth t) (sound-list m ts (list-is m ts s) .some-core) .none-exact)
+  start-is (invalid s l x) = ap checkRefusal (check-long m ts t (list-is m ts s) l) ∙ wrong (fault (ownInstance m ts) (nth t)) (names (ownInstance m ts) (nth t) (sound-list m ts (list-is m ts s) .some-core) .none-exact)
     where
-      wrong : (y : Fault) → (y ≡ noFault) ↔ Valid (planFor m ts) (nth t) → faultRefusal y ≡ 11
+      wrong : (y : Fault) → (y ≡ noFault) ↔ Valid (ownInstance m ts) (nth t) → faultRefusal y ≡ 11
       wrong noFault h = absurd (x (h .0 refl))
       wrong (inCell a b c) h = refl
       wrong (inJob a b c) h = refl
   start-is (none s l v) = ap checkRefusal (check-long m ts t (list-is m ts s) l)
-      ∙ ap faultRefusal (names (planFor m ts) (nth t) (sound-list m ts (list-is m ts s) .some-core) .none-exact .1 v)
+      ∙ ap faultRefusal (names (ownInstance m ts) (nth t) (sound-list m ts (list-is m ts s) .some-core) .none-exact .1 v)
 
 -- a refused start
 start-left : (p made : Player) (k : ℕ) → k ≢ 0 → NothingShown (firstShown made k) p (recordOr k made p)
@@ -347,7 +347,7 @@ module _ (m : ℕ) (ts : List Task) (e : ℕ) (t : List ℕ) where
   search-is (of-list x h) = sym (or-first _ (refusal m ts) _ (sym (list-is m ts h)) x)
   search-is (engine s x) = sym (or-next 0 (refusal m ts) _ _ (sym (list-is m ts s)) refl refl) ∙ unless-no _ _ _ (λ a. omega (arith, x, leb→le e 1 a))
   search-is (short s a x) = sym (or-next 0 (refusal m ts) _ _ (sym (list-is m ts s)) refl refl) ∙ unless-yes _ _ _ (le→leb _ _ a)
-      ∙ unless-no _ _ _ (λ b. omega (arith, x, leb→le (cells (planFor m ts)) (length t) b))
+      ∙ unless-no _ _ _ (λ b. omega (arith, x, leb→le (cells (ownInstance m ts)) (length t) b))
   search-is (none s a b) = sym (or-next 0 (refusal m ts) _ _ (sym (list-is m ts s)) refl refl) ∙ unless-yes _ _ _ (le→leb _ _ a) ∙ unless-yes _ _ _ (le→leb _ _ b)
 
   -- it is not above 10
@@ -358,7 +358,7 @@ module _ (m : ℕ) (ts : List Task) (e : ℕ) (t : List ℕ) where
   search-most (none s a b) = omega arith
 
   -- a search that is not refused
-  pub search-none : {k : ℕ} → OfSearch m ts e t k → k ≡ 0 → IsSound m ts × (e ≤ 1) × (cells (planFor m ts) ≤ length t)
+  pub search-none : {k : ℕ} → OfSearch m ts e t k → k ≡ 0 → IsSound m ts × (e ≤ 1) × (cells (ownInstance m ts) ≤ length t)
   search-none (of-list x h) z = absurd (x z)
   search-none (engine s x) z = absurd (omega arith)
   search-none (short s a x) z = absurd (omega arith)

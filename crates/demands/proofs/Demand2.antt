@@ -1,6 +1,6 @@
 -- Demand 2 over the calls that users make: verdicts exact both ways, the first table, the checker, and a table as a board plays it. The statements come first, then their proofs.
 -- Assumes nothing.
-use Prim.Native.Nat.{ℕ, suc, _^_, _≤_, _<_}
+use Prim.Native.Nat.{ℕ, _^_, _≤_, _<_}
 use native.Mathlib.Omega.{arith}
 use native.Mathlib.Nat.{mul-le-mul}
 use mathlib.Core.Path.{_≡_, sym, ap, subst, _∙_}
@@ -11,11 +11,10 @@ use Rattle.laws.specs.Lists.{nth, over}
 use Rattle.tasks.specs.declared.Task.{Task}
 use Rattle.tasks.specs.Task.{rate, task}
 use Rattle.tasks.specs.Refusal.{tableLength, IsSound}
-use Rattle.tasks.specs.Instance.{Instance, instanceOf, Regular}
+use Rattle.tasks.specs.Instance.{instanceOf, ownInstance}
 use Rattle.tasks.proofs.SoundLaws.{sound-list, length-whole, sound-cyclic}
 use Rattle.table.specs.Table.{cells, Table}
 use Rattle.table.proofs.TableLaws.{no-rate}
-use Rattle.rules.specs.Right.{ownInstance}
 use Rattle.rules.specs.Search.{Searched, walked, search}
 use Rattle.rules.proofs.Demand2.{Searches, searches}
 use Rattle.search.specs.declared.Answer.{Answer}
@@ -32,7 +31,7 @@ use Rattle.player.specs.declared.Player.{Player}
 use Rattle.player.proofs.Demand2 as played
 use Rattle.player.proofs.Demand2.{Run, Keeps, Plays}
 use Rattle.planner.specs.Answer.{searchAnswer, answerOf}
-use Rattle.planner.proofs.Calls.{Plan, Check, Start, PlanText}
+use Rattle.planner.proofs.Calls.{Plan, Check, PlanText}
 use Rattle.demands.proofs.Demand1.{written-room}
 
 -- ---- statements

@@ -1,15 +1,16 @@
 -- Demand 3 over the calls that users make: the engines agree, without a limit for every sound list, and with one wherever neither stops. The statements come first, then their proofs.
 -- Assumes nothing.
-use Prim.Native.Nat.{ℕ, _≤_, _<_}
+use Prim.Native.Nat.{ℕ, _≤_}
 use mathlib.Core.Path.{_≡_}
 use mathlib.Core.List.{List}
 use lib.ListN.{length, replicate}
 use Rattle.tasks.specs.declared.Task.{Task}
 use Rattle.tasks.specs.Refusal.{IsSound}
+use Rattle.tasks.specs.Instance.{ownInstance}
 use Rattle.table.specs.Table.{cells, Table}
 use Rattle.rules.specs.Walk.{table, tries}
 use Rattle.rules.specs.Rules.{rank}
-use Rattle.rules.specs.Right.{ownInstance, Right}
+use Rattle.rules.specs.Right.{Right}
 use Rattle.rules.specs.Search.{Searched, walked, search}
 use Rattle.rules.proofs.Told.{own-regular}
 use Rattle.rules.proofs.Demand2.{walks}

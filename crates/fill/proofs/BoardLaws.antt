@@ -22,11 +22,10 @@ use Rattle.tasks.specs.declared.TaskList.{TaskList}
 use Rattle.tasks.specs.Task.{task, rate, taskAt, rows}
 use Rattle.tasks.specs.Refusal.{IsSound, tableLength}
 use Rattle.tasks.specs.Window.{isJobs}
-use Rattle.tasks.specs.Instance.{jobSlot, instanceOf}
+use Rattle.tasks.specs.Instance.{jobSlot, instanceOf, ownInstance}
 use Rattle.tasks.proofs.SoundLaws.{rows-length, rows-task, SoundList, sound-list, length-whole, sound-cyclic, instance-regular}
 use Rattle.tasks.proofs.WindowLaws.{job-slot, highest-passes}
 use Rattle.rules.specs.Rules.{evenRates, twin}
-use Rattle.rules.specs.Right.{ownInstance}
 use Rattle.sets.specs.Sets.{has}
 use Rattle.board.specs.Board.{coresOn, Fits}
 use Rattle.board.specs.Ready.{Small, entryOf, isQuick, Ready}

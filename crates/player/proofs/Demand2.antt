@@ -17,7 +17,7 @@ use Rattle.tasks.specs.declared.Task.{Task}
 use Rattle.tasks.specs.Task.{rate, task}
 use Rattle.tasks.specs.Refusal.{tableLength, IsSound}
 use Rattle.tasks.specs.Window.{InWindow}
-use Rattle.tasks.specs.Instance.{instanceOf}
+use Rattle.tasks.specs.Instance.{instanceOf, ownInstance}
 use Rattle.tasks.proofs.SoundLaws.{SoundList, sound-list}
 use Rattle.table.specs.Table.{cells, Valid}
 use Rattle.table.specs.Fault.{noFault, inCell, inJob, Checked, refused, checked, check}
@@ -89,7 +89,7 @@ module _ (ts : List Task) (m : ℕ) (t : List ℕ) (p : Player) (tick : ℕ → 
   faultless = sym valid
 
   -- so the list is sound, and the table is long enough and meets C1 to C4
-  met : IsSound m ts × (cells (instanceOf (tableLength ts) m ts) ≤ length t) × Valid (instanceOf (tableLength ts) m ts) (nth t)
+  met : IsSound m ts × (cells (ownInstance m ts) ≤ length t) × Valid (ownInstance m ts) (nth t)
   met = tells m ts t .valid-exact .0 faultless
 
   sl : SoundList m ts

@@ -17,7 +17,7 @@ use Rattle.tasks.specs.declared.Task.{Task}
 use Rattle.tasks.specs.Task.{rate, task}
 use Rattle.tasks.specs.Refusal.{tableLength}
 use Rattle.tasks.specs.Window.{isJobs, work, InWindow, Cyclic}
-use Rattle.tasks.specs.Instance.{instanceOf}
+use Rattle.tasks.specs.Instance.{instanceOf, ownInstance}
 use Rattle.tasks.proofs.WindowLaws.{work-at, open-window}
 use Rattle.tasks.proofs.SoundLaws.{SoundList, length-whole, sound-cyclic}
 use Rattle.table.specs.Table.{share, done, Valid}
@@ -55,7 +55,7 @@ module _ {m : ℕ} {ts : List Task} (s : SoundList m ts) where
   pub cell-lt : (t j : ℕ) → j < m → cellAt t j < tableLength ts * m
   cell-lt t j l = omega (arith, mul-le-mul-right m (mod-lt t (s .some-slot)))
 
-  module _ (f : ℕ → ℕ) (v : Valid (instanceOf (tableLength ts) m ts) f) (i : ℕ) (x : i ≢ 0) (l : i ≤ length ts) where
+  module _ (f : ℕ → ℕ) (v : Valid (ownInstance m ts) f) (i : ℕ) (x : i ≢ 0) (l : i ≤ length ts) where
     -- the windows of the task
     windows : Cyclic (tableLength ts) (task ts i .deadline .0) (task ts i .period .0) (tableLength ts / task ts i .period .0)
     windows = sound-cyclic s (length-whole s) i x l

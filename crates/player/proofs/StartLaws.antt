@@ -12,7 +12,7 @@ use lib.Dec.{T, ltb, leb→le, eqb·suc-zero}
 use lib.ListN.{length, set, replicate, length-set, length-replicate, getD-replicate}
 use lib.Seq.{ext-getD, getD-set-same, getD-set-other}
 use Rattle.laws.specs.Sum.{gate}
-use Rattle.laws.specs.Lists.{nth, tabFrom, tab}
+use Rattle.laws.specs.Lists.{nth, tabFrom}
 use Rattle.laws.proofs.SumLaws.{lt-or-ge, gate-lt, gate-ge}
 use Rattle.laws.proofs.ListLaws.{tab-length, tab-at, tab-same}
 use Rattle.tasks.specs.declared.Task.{Task}

@@ -10,11 +10,11 @@ use lib.ListN.{length, take, drop, replicate, take-append-drop}
 use Rattle.laws.proofs.SumLaws.{lt-or-ge}
 use Rattle.tasks.specs.declared.Task.{Task}
 use Rattle.tasks.specs.Refusal.{IsSound}
-use Rattle.tasks.specs.Instance.{Instance, Regular}
+use Rattle.tasks.specs.Instance.{Instance, ownInstance, Regular}
 use Rattle.table.specs.Table.{cells, Table}
 use Rattle.rules.specs.Walk.{Result, found, none, tries, ended, stopped, limited}
 use Rattle.rules.specs.Rules.{values, rank, plain}
-use Rattle.rules.specs.Right.{ownInstance, Clean, First, Right, first, nowhere}
+use Rattle.rules.specs.Right.{Clean, First, Right, first, nowhere}
 use Rattle.rules.specs.Search.{walked, Searched, told, search}
 use Rattle.rules.proofs.Limit.{within, past}
 use Rattle.rules.proofs.Skip.{quicker-right}

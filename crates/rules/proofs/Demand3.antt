@@ -10,10 +10,10 @@ use lib.ListN.{length, take}
 use Rattle.laws.proofs.SumLaws.{lt-or-ge}
 use Rattle.tasks.specs.declared.Task.{Task}
 use Rattle.tasks.specs.Refusal.{IsSound}
-use Rattle.tasks.specs.Instance.{Instance, Regular}
+use Rattle.tasks.specs.Instance.{Instance, ownInstance, Regular}
 use Rattle.table.specs.Table.{cells}
 use Rattle.rules.specs.Walk.{Result, tries, limited}
-use Rattle.rules.specs.Right.{ownInstance, Quicker}
+use Rattle.rules.specs.Right.{Quicker}
 use Rattle.rules.specs.Rules.{values}
 use Rattle.rules.specs.Limit.{bwalk}
 use Rattle.rules.specs.Search.{ruleOf, walked, Searched, search}

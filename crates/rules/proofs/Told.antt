@@ -9,11 +9,10 @@ use borrow.Author.Tests.{le-leb}
 use Rattle.laws.specs.Lists.{over}
 use Rattle.tasks.specs.declared.Task.{Task}
 use Rattle.tasks.specs.Refusal.{unless, orNext, refusal, IsSound}
-use Rattle.tasks.specs.Instance.{Regular}
+use Rattle.tasks.specs.Instance.{ownInstance, Regular}
 use Rattle.tasks.proofs.SoundLaws.{sound-list, length-whole, instance-regular}
 use Rattle.table.specs.Table.{cells}
 use Rattle.rules.specs.Walk.{limited}
-use Rattle.rules.specs.Right.{ownInstance}
 use Rattle.rules.specs.Search.{walked, told, searchRefusal, search}
 
 -- n cells written over the start of a buffer

@@ -7,14 +7,7 @@ use lib.Dec.{T}
 use lib.ListN.{length, take}
 use Rattle.laws.specs.Lists.{nth}
 use Rattle.laws.specs.Order.{In, Before}
-use Rattle.tasks.specs.declared.Task.{Task}
-use Rattle.tasks.specs.Refusal.{tableLength}
-use Rattle.tasks.specs.Instance.{Instance, instanceOf}
 use Rattle.rules.specs.Walk.{Rule, Result, found, none, table, tries}
-
--- the instance of a task list on m cores in its own H slots
-abbrev pub ownInstance : ℕ → List Task → Instance
-ownInstance m ts = instanceOf (tableLength ts) m ts
 
 -- the list is empty
 pub data Empty : List ℕ → Type 0 where

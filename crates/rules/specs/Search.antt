@@ -6,8 +6,8 @@ use lib.Dec.{leb}
 use lib.ListN.{length, replicate}
 use Rattle.laws.specs.Lists.{over}
 use Rattle.tasks.specs.declared.Task.{Task}
-use Rattle.tasks.specs.Refusal.{unless, orNext, refusal, tableLength}
-use Rattle.tasks.specs.Instance.{Instance, instanceOf}
+use Rattle.tasks.specs.Refusal.{unless, orNext, refusal}
+use Rattle.tasks.specs.Instance.{Instance, ownInstance}
 use Rattle.table.specs.Table.{cells}
 use Rattle.rules.specs.Walk.{Rule, Result, found, none, walk, Answer, ended, stopped, limited}
 use Rattle.rules.specs.Rules.{values, plain, quick}
@@ -36,7 +36,7 @@ told n buffer (stopped k) = record { verdict = 14; tries = k; buffer = over (rep
 -- after 1 to 8: 9 engine not 0 or 1; 10 buffer shorter than H × m
 unfoldable pub searchRefusal : ℕ → List Task → ℕ → ℕ → ℕ
 searchRefusal m ts e room =
-    orNext (refusal m ts) (unless (leb e 1) 9 (unless (leb (cells (instanceOf (tableLength ts) m ts)) room) 10 0))
+    orNext (refusal m ts) (unless (leb e 1) 9 (unless (leb (cells (ownInstance m ts)) room) 10 0))
 
 -- a refusal reports 0 tries and leaves the buffer untouched
 abbrev pub toldUnless : ℕ → List ℕ → Searched → Searched
@@ -46,5 +46,5 @@ toldUnless (suc r) buffer s = record { verdict = suc r; tries = 0; buffer = buff
 -- the search of a list on m cores, by engine e with a limit of b tries, into a buffer
 unfoldable pub search : ℕ → List Task → ℕ → ℕ → List ℕ → Searched
 search m ts e b buffer =
-    let P = instanceOf (tableLength ts) m ts in
+    let P = ownInstance m ts in
     toldUnless (searchRefusal m ts e (length buffer)) buffer (told (cells P) buffer (limited b (walked e P)))

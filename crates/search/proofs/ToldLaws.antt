@@ -18,12 +18,11 @@ use Rattle.laws.proofs.ListLaws.{tab-take, tab-replicate, filled-length, filled
 use Rattle.tasks.specs.declared.TaskList.{TaskList}
 use Rattle.tasks.specs.Task.{task, taskAt, rows}
 use Rattle.tasks.specs.Refusal.{IsSound, tableLength}
-use Rattle.tasks.specs.Instance.{instanceOf}
+use Rattle.tasks.specs.Instance.{instanceOf, ownInstance}
 use Rattle.tasks.proofs.SoundLaws.{SoundList, sound-list}
 use Rattle.table.specs.Table.{done}
 use Rattle.rules.specs.Walk as walks
 use Rattle.rules.specs.Walk.{Result, tries, spend, ended, cap, limited}
-use Rattle.rules.specs.Right.{ownInstance}
 use Rattle.rules.specs.Search.{walked, told}
 use Rattle.board.specs.Board.{coresOn, setsOn}
 use Rattle.walk.specs.Machine.{End, Found, Nothing, Stopped, packed, State, walkOn, firstOn, cellsLeft, full, Ran}

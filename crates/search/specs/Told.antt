@@ -9,9 +9,9 @@ use Rattle.laws.specs.Lists.{nth, filled}
 use Rattle.tasks.specs.declared.Task.{Task}
 use Rattle.tasks.specs.declared.TaskList.{TaskList}
 use Rattle.tasks.specs.Refusal.{unless}
+use Rattle.tasks.specs.Instance.{ownInstance}
 use Rattle.table.specs.Table.{cells}
 use Rattle.rules.specs.Walk.{limited}
-use Rattle.rules.specs.Right.{ownInstance}
 use Rattle.rules.specs.Search.{Searched, walked, told}
 use Rattle.board.specs.Board.{setsOn}
 use Rattle.walk.specs.Machine.{End, Found, Nothing, Stopped, Ran}

@@ -7,8 +7,8 @@ use lib.Dec.{leb, ltb}
 use lib.ListN.{length}
 use Rattle.laws.specs.Lists.{nth, seek, firstOf}
 use Rattle.tasks.specs.declared.Task.{Task}
-use Rattle.tasks.specs.Refusal.{unless, orNext, refusal, tableLength}
-use Rattle.tasks.specs.Instance.{Instance, instanceOf}
+use Rattle.tasks.specs.Refusal.{unless, orNext, refusal}
+use Rattle.tasks.specs.Instance.{Instance, ownInstance}
 use Rattle.table.specs.Table.{cells, slotOf, coreOf, done, free}
 
 -- the fault of a task of the list, by its tests in a cell: 2 task closed, 3 rate 0, 4 already in this slot; 0 none
@@ -76,5 +76,5 @@ checkedIf (suc r) x = refused (suc r)
 -- the checker: cells past H × m are not looked at
 unfoldable pub check : ℕ → List Task → List ℕ → Checked
 check m ts t =
-    let P = instanceOf (tableLength ts) m ts in
+    let P = ownInstance m ts in
     checkedIf (orNext (refusal m ts) (unless (leb (cells P) (length t)) 10 0)) (fault P (nth t))

@@ -9,6 +9,7 @@ use lib.Dec.{eqb}
 use lib.ListN.{length}
 use Rattle.tasks.specs.declared.Task.{Task}
 use Rattle.tasks.specs.Task.{task, rate}
+use Rattle.tasks.specs.Refusal.{tableLength}
 use Rattle.tasks.specs.Window.{isOpen, jobAt, highest}
 
 -- slots, cores and tasks; in which slots a task is open, and for which job; its jobs, its rate on a core, its work
@@ -42,6 +43,10 @@ instanceOf L m ts = record {
   rate = λ i. rate (task ts i);
   work = λ i. task ts i .work .0;
 }
+
+-- the instance of a task list on m cores in its own H slots
+abbrev pub ownInstance : ℕ → List Task → Instance
+ownInstance m ts = instanceOf (tableLength ts) m ts
 
 -- what an instance must have for its jobs to be the table's: a core, a slot, and in each open slot one of the task's jobs
 pub record Regular (P : Instance) : Type 0 where
