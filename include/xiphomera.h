@@ -1,10 +1,10 @@
 /* Xiphomera for C and C++: the player on the board, and the search, the checker and the program's texts beside it.
  *
- * A list of n tasks comes as one array of 16 for each number and one of 64 for the rates, four a task; what lies
- * behind the n-th task is not looked at. A table comes as a pointer and its number of cells: H x m of them, slot by
- * slot from slot 0, core by core within a slot; a cell is 0 (idle) or a task number. Every call copes with every
- * number that it is handed and keeps nothing of what it is lent. No pointer may be null, and what is written to
- * may not overlap with anything else that the call is lent. */
+ * A list of tasks comes as a pointer to the first record and the number of records: 0 of them, or more than 16, are
+ * refused by 1, whatever they hold. A table comes as a pointer and its number of cells: H x m of them, slot by slot
+ * from slot 0, core by core within a slot; a cell is 0 (idle) or a task number. Every call copes with every number
+ * that it is handed, cuts none of them off, and keeps nothing of what it is lent. No pointer may be null, not even one
+ * to 0 records or cells, and what is written to may not overlap with anything else that the call is lent. */
 #ifndef XIPHOMERA_H
 #define XIPHOMERA_H
 
@@ -40,6 +40,15 @@ enum {
     XIPHOMERA_OUT_OF_PLACE = 24  /* text: out of place, a task number above 16, or no end */
 };
 
+/* A task, 12 bytes without gaps. The ranges are tested, so a record may hold any numbers. */
+typedef struct xiphomera_task {
+    uint16_t offset;   /* at 0: the slot of the first release, 0..1023 */
+    uint16_t work;     /* at 2: units of work a job, 1..4096 */
+    uint16_t deadline; /* at 4: slots from a release, 1..period */
+    uint16_t period;   /* at 6: slots from one release to the next, 1..1024 */
+    uint8_t rates[4];  /* at 8: units of work a slot, one a core, 0..15; 0 beyond the board's last core */
+} xiphomera_task;
+
 /* ---- The player */
 
 /* The player's record, 4140 bytes without gaps. It is the caller's; a start makes it and a step advances it. */
@@ -61,9 +70,8 @@ static inline uint32_t xiphomera_tries(uint64_t answer) { return (uint32_t)answe
 
 /* Makes the record for a valid table at a tick and shows slot 0: four cells, one a core. Refusals 1 to 8, 10 and 11
  * leave the record as it was and show four 0 cells. */
-uint64_t xiphomera_start(xiphomera_player *player, uint8_t n, const uint16_t offset[16], const uint16_t work[16],
-                         const uint16_t deadline[16], const uint16_t period[16], const uint8_t rates[64],
-                         uint8_t cores, const uint8_t *table, size_t table_length, uint32_t tick, uint8_t cells[4]);
+uint64_t xiphomera_start(xiphomera_player *player, const xiphomera_task *tasks, size_t count, uint32_t cores,
+                         const uint8_t *table, size_t table_length, uint32_t tick, uint8_t cells[4]);
 
 /* Advances the record to a tick and shows the slot that it has come to: four cells, one a core. Refusals 12 and 15
  * leave the record as it was and show four 0 cells. The ticks may wrap from 4294967295 to 0. */
@@ -73,13 +81,11 @@ uint64_t xiphomera_step(xiphomera_player *player, uint32_t tick, uint8_t cells[4
 
 /* Searches a table, with engine 0 (plain) or 1 (quick) and at most `limit` tries. Unless it is refused (1 to 10), the
  * first H x m cells of the buffer are the table found, or 0; the others are not touched. */
-uint64_t xiphomera_search(uint8_t n, const uint16_t offset[16], const uint16_t work[16], const uint16_t deadline[16],
-                          const uint16_t period[16], const uint8_t rates[64], uint8_t cores, uint8_t engine,
-                          uint32_t limit, uint8_t *table, size_t table_length);
+uint64_t xiphomera_search(const xiphomera_task *tasks, size_t count, uint32_t cores, uint32_t engine, uint32_t limit,
+                          uint8_t *table, size_t table_length);
 
 /* Checks a table: class x 2^48 + a x 2^32 + b x 2^16 + c. */
-uint64_t xiphomera_check(uint8_t n, const uint16_t offset[16], const uint16_t work[16], const uint16_t deadline[16],
-                         const uint16_t period[16], const uint8_t rates[64], uint8_t cores, const uint8_t *table,
+uint64_t xiphomera_check(const xiphomera_task *tasks, size_t count, uint32_t cores, const uint8_t *table,
                          size_t table_length);
 
 /* The classes of a check's answer. */

@@ -1,43 +1,48 @@
-/* The player as a board's program links it: include/xiphomera.h and the archive of the crate `exports`. */
+/* The calls as a board's program links them: include/xiphomera.h and the archive of the crate `exports`. */
 #include "xiphomera.h"
 
 #include <stdio.h>
 #include <string.h>
 
-/* The record lies as the header says: what does not hold is an array of -1. */
-#define LIES(field, at) typedef char field##_lies[offsetof(xiphomera_player, field) == (at) ? 1 : -1]
-LIES(last, 0);
-LIES(h, 4);
-LIES(position, 6);
-LIES(age, 8);
-LIES(offsets, 10);
-LIES(m, 42);
-LIES(n, 43);
-LIES(table, 44);
-typedef char no_gaps[sizeof(xiphomera_player) == 4140 ? 1 : -1];
+/* The records lie as the header says: what does not hold is an array of -1. */
+#define LIES(record, field, at) typedef char record##_##field##_lies[offsetof(xiphomera_##record, field) == (at) ? 1 : -1]
+#define TAKES(record, bytes) typedef char record##_takes[sizeof(xiphomera_##record) == (bytes) ? 1 : -1]
+LIES(player, last, 0);
+LIES(player, h, 4);
+LIES(player, position, 6);
+LIES(player, age, 8);
+LIES(player, offsets, 10);
+LIES(player, m, 42);
+LIES(player, n, 43);
+LIES(player, table, 44);
+TAKES(player, 4140);
+LIES(task, offset, 0);
+LIES(task, work, 2);
+LIES(task, deadline, 4);
+LIES(task, period, 6);
+LIES(task, rates, 8);
+TAKES(task, 12);
 
-/* A list in its arrays, the board's cores, and a table. */
+/* A list, the board's cores, and a table. */
 typedef struct {
-    uint8_t n, cores, rates[64];
-    uint16_t offset[16], work[16], deadline[16], period[16];
+    xiphomera_task tasks[12];
+    size_t count;
+    uint32_t cores;
     uint8_t table[12];
     size_t table_length;
 } problem;
 
 /* One task (2,2,2,3) on one core: its table is 1 0 1. */
-static const problem P2 = {1, 1, {1}, {2}, {2}, {2}, {3}, {1, 0, 1}, 3};
+static const problem P2 = {{{2, 2, 2, 3, {1}}}, 1, 1, {1, 0, 1}, 3};
 
 /* One task (0,1,1,1) that only core 4 can run. */
-static const problem FOUR = {1, 4, {0, 0, 0, 1}, {0}, {1}, {1}, {1}, {0, 0, 0, 1}, 4};
+static const problem FOUR = {{{0, 1, 1, 1, {0, 0, 0, 1}}}, 1, 4, {0, 0, 0, 1}, 4};
 
 /* Twelve tasks on one core, H = 12: slot t holds task t + 1. */
 static problem twelve(void) {
-    problem p = {12, 1, {0}, {0}, {0}, {0}, {0}, {0}, 12};
+    problem p = {.count = 12, .cores = 1, .table_length = 12};
     for (uint8_t t = 0; t < 12; t++) {
-        p.rates[4 * t] = 1;
-        p.offset[t] = t;
-        p.work[t] = p.deadline[t] = 1;
-        p.period[t] = 12;
+        p.tasks[t] = (xiphomera_task){.offset = t, .work = 1, .deadline = 1, .period = 12, .rates = {1}};
         p.table[t] = t + 1;
     }
     return p;
@@ -56,8 +61,7 @@ static void expect(int holds, const char *what) {
 
 static uint64_t start(problem p, uint32_t tick) {
     memset(cells, 255, sizeof cells);
-    return xiphomera_start(&player, p.n, p.offset, p.work, p.deadline, p.period, p.rates, p.cores, p.table,
-                           p.table_length, tick, cells);
+    return xiphomera_start(&player, p.tasks, p.count, p.cores, p.table, p.table_length, tick, cells);
 }
 
 static uint64_t step(uint32_t tick) {
@@ -134,7 +138,7 @@ static void refuses_starts(void) {
     start(twelve(), 5);
     const xiphomera_player before = player;
     problem p = P2;
-    p.deadline[0] = 0;
+    p.tasks[0].deadline = 0;
     expect(refuses(start(p, 9), XIPHOMERA_BAD_DEADLINE, &before), "deadline 0 is refused");
     p = P2;
     p.table_length = 2;
@@ -142,6 +146,79 @@ static void refuses_starts(void) {
     p = P2;
     p.table[1] = 1;
     expect(refuses(start(p, 9), XIPHOMERA_INVALID, &before), "a table that is not valid is refused");
+}
+
+/* A list of 257 good tasks. */
+static const xiphomera_task *many(void) {
+    static xiphomera_task tasks[257];
+    for (size_t i = 0; i < 257; i++)
+        tasks[i] = P2.tasks[0];
+    return tasks;
+}
+
+static void cuts_no_start_off(void) {
+    start(twelve(), 5);
+    const xiphomera_player before = player;
+    const size_t counts[] = {0, 17, 256, 257};
+    for (size_t i = 0; i < sizeof counts / sizeof *counts; i++) {
+        memset(cells, 255, sizeof cells);
+        const uint64_t answer = xiphomera_start(&player, many(), counts[i], 1, P2.table, 3, 9, cells);
+        expect(refuses(answer, XIPHOMERA_BAD_COUNT, &before), "a start of 0, 17, 256 or 257 tasks is refused by 1");
+    }
+    const uint32_t cores[] = {0, 5, 256, 257, 65537, 4294967295u};
+    for (size_t i = 0; i < sizeof cores / sizeof *cores; i++) {
+        problem p = P2;
+        p.cores = cores[i];
+        expect(refuses(start(p, 9), XIPHOMERA_BAD_CORES, &before), "a start on so many cores is refused by 2");
+    }
+}
+
+/* The buffer of a search, one cell longer than P2's table. */
+static uint8_t buffer[4];
+
+static uint64_t search(const xiphomera_task *tasks, size_t count, uint32_t cores, uint32_t engine, uint32_t limit) {
+    memset(buffer, 255, sizeof buffer);
+    return xiphomera_search(tasks, count, cores, engine, limit, buffer, sizeof buffer);
+}
+
+/* Whether a search ends so, with this number of tries and these four bytes in the buffer. */
+static int ends(uint64_t answer, uint32_t verdict, uint32_t tries, const char *left) {
+    return xiphomera_verdict(answer) == verdict && xiphomera_tries(answer) == tries && memcmp(buffer, left, 4) == 0;
+}
+
+static void searches(void) {
+    const char *untouched = "\377\377\377\377";
+    for (uint32_t engine = 0; engine < 2; engine++) {
+        expect(ends(search(P2.tasks, 1, 1, engine, 3), XIPHOMERA_FOUND, 3, "\1\0\1\377"), "P2 is found in three tries");
+        expect(ends(search(P2.tasks, 1, 1, engine, 2), XIPHOMERA_STOPPED, 2, "\0\0\0\377"), "P2 is stopped after two");
+    }
+    const size_t counts[] = {0, 17, 256, 257};
+    for (size_t i = 0; i < sizeof counts / sizeof *counts; i++)
+        expect(ends(search(many(), counts[i], 257, 257, 3), XIPHOMERA_BAD_COUNT, 0, untouched), "0, 17, 256 or 257 tasks");
+    expect(ends(search(P2.tasks, 1, 257, 257, 3), XIPHOMERA_BAD_CORES, 0, untouched), "257 cores are not one");
+    const uint32_t engines[] = {2, 256, 257, 2147483648u, 4294967295u};
+    for (size_t i = 0; i < sizeof engines / sizeof *engines; i++)
+        expect(ends(search(P2.tasks, 1, 1, engines[i], 3), XIPHOMERA_BAD_ENGINE, 0, untouched), "no such engine");
+}
+
+/* Whether a check answers so. */
+static int checks(problem p, unsigned class, unsigned a, unsigned b, unsigned c) {
+    const uint64_t answer = xiphomera_check(p.tasks, p.count, p.cores, p.table, p.table_length);
+    return xiphomera_class(answer) == class && xiphomera_a(answer) == a && xiphomera_b(answer) == b
+        && xiphomera_c(answer) == c;
+}
+
+static void checks_tables(void) {
+    problem p = P2;
+    expect(checks(p, XIPHOMERA_VALID, 0, 0, 0), "P2's table is valid");
+    p.table[1] = 1;
+    expect(checks(p, XIPHOMERA_FAULTY_CELL, 1, 1, 2), "P11: slot 1, core 1, kind 2");
+    p.table[1] = p.table[2] = 0;
+    expect(checks(p, XIPHOMERA_FAULTY_JOB, 1, 0, 5), "P12: task 1, job 0, kind 5");
+    p.cores = 257;
+    expect(checks(p, XIPHOMERA_REFUSED, 0, 0, XIPHOMERA_BAD_CORES), "a check on 257 cores is refused by 2");
+    p.count = 0;
+    expect(checks(p, XIPHOMERA_REFUSED, 0, 0, XIPHOMERA_BAD_COUNT), "a check of no task is refused by 1");
 }
 
 int main(void) {
@@ -152,5 +229,8 @@ int main(void) {
     refuses_the_past();
     refuses_a_spoilt_record();
     refuses_starts();
+    cuts_no_start_off();
+    searches();
+    checks_tables();
     return failures != 0;
 }

@@ -47,10 +47,11 @@ fn plan(text: &[u8], answer: &mut Vec<u8>) -> Result<(), Refusal> {
     Ok(())
 }
 
-/// The text of a problem that `read_problem` reads.
+/// The text of a problem that `read_problem` reads; a number that no byte holds is written as 255.
 pub fn problem_text(problem: &Problem) -> Vec<u8> {
     let mut text = Vec::new();
-    write_frame(&mut text, &[CORES, problem.cores]);
+    let byte = |number: u32| number.try_into().unwrap_or(255);
+    write_frame(&mut text, &[CORES, byte(problem.cores)]);
     for (at, task) in problem.tasks.iter().enumerate() {
         let number = (at + 1) as u8;
         let numbers = [task.offset, task.work, task.deadline, task.period].map(u16::to_be_bytes);
@@ -61,7 +62,10 @@ pub fn problem_text(problem: &Problem) -> Vec<u8> {
         write_frame(&mut text, &[&[RATES, number], &task.rates[..]].concat());
     }
     let limit = problem.limit.to_be_bytes();
-    write_frame(&mut text, &[&[ENGINE, problem.engine], &limit[..]].concat());
+    write_frame(
+        &mut text,
+        &[&[ENGINE, byte(problem.engine)], &limit[..]].concat(),
+    );
     write_frame(&mut text, &[END]);
     text
 }
@@ -141,7 +145,7 @@ fn read_frame(frame: &[u8], due: Due, problem: &mut Problem) -> Result<Due, Refu
     }
     match (kind, due) {
         (CORES, Due::Cores) => {
-            problem.cores = frame[1];
+            problem.cores = frame[1].into();
             Ok(Due::TaskOrEngineOrEnd)
         }
         (TASK, Due::TaskOrEngineOrEnd)
@@ -167,7 +171,7 @@ fn read_frame(frame: &[u8], due: Due, problem: &mut Problem) -> Result<Due, Refu
             Ok(Due::TaskOrEngineOrEnd)
         }
         (ENGINE, Due::TaskOrEngineOrEnd) => {
-            problem.engine = frame[1];
+            problem.engine = frame[1].into();
             problem.limit = u32::from_be_bytes([frame[2], frame[3], frame[4], frame[5]]);
             Ok(Due::End)
         }

@@ -71,10 +71,36 @@ pub fn large(random: &mut Random) -> Problem {
     };
     Problem {
         tasks: (0..MOST_TASKS).map(task).collect(),
-        cores: MOST_CORES as u8,
-        engine: random.below(2) as u8,
+        cores: MOST_CORES as u32,
+        engine: random.below(2) as u32,
         limit: 300_000,
     }
+}
+
+/// Problems with every mix of good and bad counts, cores and engines; cut off to a byte, 256 and 257
+/// would be 0 and 1.
+pub fn out_of_range() -> Vec<Problem> {
+    let task = Task {
+        offset: 2,
+        work: 2,
+        deadline: 2,
+        period: 3,
+        rates: [1, 0, 0, 0],
+    };
+    let mut problems = Vec::new();
+    for count in [0, 1, 16, 17, 256, 257] {
+        for cores in [0, 1, 5, 256, 257] {
+            for engine in [0, 1, 2, 256, 257] {
+                problems.push(Problem {
+                    tasks: vec![task; count],
+                    cores,
+                    engine,
+                    limit: USUAL,
+                });
+            }
+        }
+    }
+    problems
 }
 
 /// A sound problem whose periods divide `slots`.
@@ -93,8 +119,8 @@ fn sound(random: &mut Random, slots: usize, most_tasks: usize, most_cores: usize
     }
     Problem {
         tasks,
-        cores: cores as u8,
-        engine: random.below(2) as u8,
+        cores: cores as u32,
+        engine: random.below(2) as u32,
         limit: USUAL,
     }
 }
@@ -162,7 +188,7 @@ fn spoil(random: &mut Random, problem: &mut Problem) {
             let count = random.pick(&[0, 17, 18, 256, 257, 272]);
             problem.tasks = problem.tasks.iter().cycle().take(count).copied().collect();
         }
-        (2, _) => problem.cores = random.pick(&[0, 5, 255]),
+        (2, _) => problem.cores = random.pick(&[0, 5, 255, 256, 257, 260, 65537, u32::MAX]),
         (3, Some(task)) => task.period = random.pick(&[0, 1025, 1026, 65535]),
         (4, Some(task)) => {
             task.deadline = random.pick(&[0, task.period.saturating_add(1), 1025, 65535]);
@@ -173,7 +199,7 @@ fn spoil(random: &mut Random, problem: &mut Problem) {
         (8, Some(task)) => {
             (task.deadline, task.period) = (1, random.pick(&[7, 33, 127, 1021, 1023, 1024]));
         }
-        (9, _) => problem.engine = random.pick(&[2, 3, 255]),
+        (9, _) => problem.engine = random.pick(&[2, 3, 255, 256, 257, 65536, 1 << 31, u32::MAX]),
         _ => {}
     }
 }

@@ -42,7 +42,7 @@ pub fn start(
     let h = problem.h()?;
     *record = Record {
         h: h as u16,
-        cores: problem.cores,
+        cores: problem.cores as u8,
         tasks: problem.tasks.len() as u8,
         offsets: [0; MOST_TASKS],
         table: [0; MOST_CELLS],

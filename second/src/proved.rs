@@ -5,40 +5,28 @@ use second::tasks::{Problem, Task, MOST_CELLS, MOST_CORES, MOST_TASKS};
 
 extern "C" {
     fn xiphomera_search(
-        tasks: u8,
-        offset: &[u16; MOST_TASKS],
-        work: &[u16; MOST_TASKS],
-        deadline: &[u16; MOST_TASKS],
-        period: &[u16; MOST_TASKS],
-        rates: &[[u8; MOST_CORES]; MOST_TASKS],
-        cores: u8,
-        engine: u8,
+        tasks: *const Task,
+        count: usize,
+        cores: u32,
+        engine: u32,
         limit: u32,
         table: *mut u8,
         table_length: usize,
     ) -> u64;
 
     fn xiphomera_check(
-        tasks: u8,
-        offset: &[u16; MOST_TASKS],
-        work: &[u16; MOST_TASKS],
-        deadline: &[u16; MOST_TASKS],
-        period: &[u16; MOST_TASKS],
-        rates: &[[u8; MOST_CORES]; MOST_TASKS],
-        cores: u8,
+        tasks: *const Task,
+        count: usize,
+        cores: u32,
         table: *const u8,
         table_length: usize,
     ) -> u64;
 
     fn xiphomera_start(
         player: &mut Player,
-        tasks: u8,
-        offset: &[u16; MOST_TASKS],
-        work: &[u16; MOST_TASKS],
-        deadline: &[u16; MOST_TASKS],
-        period: &[u16; MOST_TASKS],
-        rates: &[[u8; MOST_CORES]; MOST_TASKS],
-        cores: u8,
+        tasks: *const Task,
+        count: usize,
+        cores: u32,
         table: *const u8,
         table_length: usize,
         tick: u32,
@@ -60,16 +48,11 @@ const LONGEST_ANSWER: usize = 32768;
 
 /// The verdict and the tries.
 pub fn search(problem: &Problem, table: &mut [u8]) -> (u32, u32) {
-    let list = Lent::of(&problem.tasks);
-    // SAFETY: the arrays have the lengths that the library reads, and only `table` is written.
+    // SAFETY: each pointer is good for the length that follows it, and only `table` is written.
     let answer = unsafe {
         xiphomera_search(
-            list.tasks,
-            &list.offset,
-            &list.work,
-            &list.deadline,
-            &list.period,
-            &list.rates,
+            problem.tasks.as_ptr(),
+            problem.tasks.len(),
             problem.cores,
             problem.engine,
             problem.limit,
@@ -82,16 +65,11 @@ pub fn search(problem: &Problem, table: &mut [u8]) -> (u32, u32) {
 
 /// A class and three numbers: 0 valid; 1 slot, core, kind; 2 task, job, kind; 3 0, 0, refusal.
 pub fn check(problem: &Problem, table: &[u8]) -> [u16; 4] {
-    let list = Lent::of(&problem.tasks);
-    // SAFETY: the arrays have the lengths that the library reads, and nothing is written.
+    // SAFETY: each pointer is good for the length that follows it, and nothing is written.
     let answer = unsafe {
         xiphomera_check(
-            list.tasks,
-            &list.offset,
-            &list.work,
-            &list.deadline,
-            &list.period,
-            &list.rates,
+            problem.tasks.as_ptr(),
+            problem.tasks.len(),
             problem.cores,
             table.as_ptr(),
             table.len(),
@@ -102,18 +80,13 @@ pub fn check(problem: &Problem, table: &[u8]) -> [u16; 4] {
 
 /// The verdict of a start, and what it shows.
 pub fn start(player: &mut Player, problem: &Problem, table: &[u8], tick: u32) -> (u32, Shown) {
-    let list = Lent::of(&problem.tasks);
     let mut cells = [255; MOST_CORES];
-    // SAFETY: the arrays have the lengths that the library reads, and only `player` and `cells` are written.
+    // SAFETY: each pointer is good for the length that follows it, and only `player` and `cells` are written.
     let answer = unsafe {
         xiphomera_start(
             player,
-            list.tasks,
-            &list.offset,
-            &list.work,
-            &list.deadline,
-            &list.period,
-            &list.rates,
+            problem.tasks.as_ptr(),
+            problem.tasks.len(),
             problem.cores,
             table.as_ptr(),
             table.len(),
@@ -187,33 +160,5 @@ impl From<&Player> for Record {
             age: player.age,
             last: player.last,
         }
-    }
-}
-
-/// A list as the library takes it: each number in an array of its own; any count above 16 stands for too many.
-#[derive(Default)]
-struct Lent {
-    tasks: u8,
-    offset: [u16; MOST_TASKS],
-    work: [u16; MOST_TASKS],
-    deadline: [u16; MOST_TASKS],
-    period: [u16; MOST_TASKS],
-    rates: [[u8; MOST_CORES]; MOST_TASKS],
-}
-
-impl Lent {
-    fn of(tasks: &[Task]) -> Lent {
-        let mut list = Lent {
-            tasks: tasks.len().min(MOST_TASKS + 1) as u8,
-            ..Lent::default()
-        };
-        for (i, task) in tasks.iter().take(MOST_TASKS).enumerate() {
-            list.offset[i] = task.offset;
-            list.work[i] = task.work;
-            list.deadline[i] = task.deadline;
-            list.period[i] = task.period;
-            list.rates[i] = task.rates;
-        }
-        list
     }
 }

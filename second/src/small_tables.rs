@@ -6,8 +6,8 @@ use crate::tasks::{Problem, Task, MOST_CELLS, MOST_TASKS};
 use crate::verdict::{Ending, Refusal};
 use crate::walk::{search, Outcome};
 
-const PLAIN: u8 = 0;
-const QUICK: u8 = 1;
+const PLAIN: u32 = 0;
+const QUICK: u32 = 1;
 
 /// A task of offset, work, deadline and period, with rate 1 on so many cores.
 fn task(numbers: [u16; 4], cores: usize) -> Task {
@@ -23,7 +23,7 @@ fn task(numbers: [u16; 4], cores: usize) -> Task {
     }
 }
 
-fn problem(tasks: &[Task], cores: u8, engine: u8, limit: u32) -> Problem {
+fn problem(tasks: &[Task], cores: u32, engine: u32, limit: u32) -> Problem {
     Problem {
         tasks: tasks.to_vec(),
         cores,
@@ -32,7 +32,7 @@ fn problem(tasks: &[Task], cores: u8, engine: u8, limit: u32) -> Problem {
     }
 }
 
-fn unlimited(tasks: &[Task], cores: u8, engine: u8) -> Problem {
+fn unlimited(tasks: &[Task], cores: u32, engine: u32) -> Problem {
     problem(tasks, cores, engine, u32::MAX)
 }
 

@@ -10,7 +10,8 @@ const MOST_OFFSET: u16 = 1023;
 const MOST_WORK: u16 = 4096;
 pub const MOST_RATE: u8 = 15;
 
-/// A task; its rates are those of the four cores, 0 where it cannot run.
+/// A task, laid out as C has it; its rates are those of the four cores, 0 where it cannot run.
+#[repr(C)]
 #[derive(Clone, Copy, Debug, PartialEq, Eq)]
 pub struct Task {
     pub offset: u16,
@@ -57,12 +58,13 @@ impl Task {
     }
 }
 
-/// A task list, the number of cores, and what the search is to do with them.
+/// A task list, the number of cores, and what the search is to do with them; cores and engine are as
+/// wide as a caller's.
 #[derive(Clone, Debug, PartialEq, Eq)]
 pub struct Problem {
     pub tasks: Vec<Task>,
-    pub cores: u8,
-    pub engine: u8,
+    pub cores: u32,
+    pub engine: u32,
     pub limit: u32,
 }
 
@@ -113,7 +115,7 @@ mod tests {
         rates: [1, 0, 0, 0],
     };
 
-    fn refusal(tasks: &[Task], cores: u8) -> Option<u8> {
+    fn refusal(tasks: &[Task], cores: u32) -> Option<u8> {
         let problem = Problem {
             tasks: tasks.to_vec(),
             cores,
@@ -192,6 +194,7 @@ mod tests {
         let mut tasks = [TASK, bad, long, bad];
         assert_eq!(refusal(&tasks, 5), Some(2));
         assert_eq!(refusal(&tasks, 0), Some(2));
+        assert_eq!(refusal(&tasks, 257), Some(2));
         assert_eq!(refusal(&tasks, 1), Some(3));
         tasks[1].period = 32;
         assert_eq!(refusal(&tasks, 1), Some(4));

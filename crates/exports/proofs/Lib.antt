@@ -1,2 +1,5 @@
-mod TellLaws
+mod CallLaws
+mod NarrowLaws
+mod NarrowCall
+mod TellCall
 mod Calls

@@ -1,21 +1,25 @@
--- What the exported functions are handed and what they answer, as the definitions have it.
+-- What the exported functions answer, each answer as a number.
 -- Assumes nothing.
 use Prim.Native.Nat.{ℕ, _+_, _*_, _^_}
 use mathlib.Core.Path.{_≡_}
+use mathlib.Core.Bool.{cond}
 use mathlib.Core.List.{List}
-use Rattle.tasks.specs.declared.TaskList.{TaskList}
+use lib.Dec.{ltb}
 use Rattle.table.specs.Fault.{noFault, inCell, inJob, Checked, refused, checked}
 use Rattle.rules.specs.Search.{Searched}
 use Rattle.clock.specs.declared.Shown.{Shown}
 
--- a list as numbers, from its arrays
-abbrev pub listed : ℕ → List ℕ → List ℕ → List ℕ → List ℕ → List ℕ → TaskList
-listed n offset work deadline period rates =
-    record { n = n; offset = offset; work = work; deadline = deadline; period = period; rates = rates }
+-- a number as a byte; what no byte holds is 255
+unfoldable pub narrowed : ℕ → ℕ
+narrowed x = cond (ltb 255 x) 255 x
 
--- a search, told as one number, verdict × 2^32 + tries, and its buffer
+-- a verdict and a number, as one
+abbrev pub withVerdict : ℕ → ℕ → ℕ
+withVerdict verdict number = verdict * 2 ^ 32 + number
+
+-- a search, told as one number and its buffer
 pub record SearchedAs (r : ℕ) (buffer : List ℕ) (s : Searched) : Type 0 where
-  pub answer : r ≡ s .verdict * 2 ^ 32 + s .tries
+  pub answer : r ≡ withVerdict (s .verdict) (s .tries)
   pub left : buffer ≡ s .buffer
 
 -- three numbers of a class, as one
@@ -29,7 +33,7 @@ checkedAs (checked (inCell slot core kind)) = packedAs 1 slot core kind
 checkedAs (checked (inJob task job kind)) = packedAs 2 task job kind
 checkedAs (refused number) = packedAs 3 0 0 number
 
--- what a start or a step shows, told as one number, verdict × 2^32 + missed, and its four cells
+-- what a start or a step shows, told as one number and its four cells
 pub record ToldAs (r : ℕ) (cells : List ℕ) (s : Shown) : Type 0 where
-  pub answer : r ≡ s .verdict * 2 ^ 32 + s .missed
+  pub answer : r ≡ withVerdict (s .verdict) (s .missed)
   pub shown : cells ≡ s .cells

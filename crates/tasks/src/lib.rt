@@ -5,14 +5,18 @@ ghost use Rattle.tasks.specs.Task.{taskAt, rows, added, workIn};
 ghost use Rattle.tasks.specs.Refusal.{within as withinOf, ratesFit, taskRefusal, listRefusal, Periods, lengthOf, testedAs, tested};
 
 // A number of slots of time.
+#[repr(C)]
 pub struct Slots(pub u16);
 
 // Units of work.
+#[repr(C)]
 pub struct Work(pub u16);
 
 // A task's rates, one a core.
+#[repr(C)]
 pub struct Rates(pub [u8; 4]);
 
+#[repr(C)]
 pub struct Task {
     pub offset: Slots,
     pub work: Work,

@@ -234,7 +234,7 @@ fn stretched(number: u64, slots: usize) -> Problem {
     let count = random.between(3, MOST_TASKS);
     let cores = random.between(1, MOST_CORES);
     let (least_rate, most_rate) = random.pick(&[(1, 1), (0, 3)]);
-    let engine = random.below(2) as u8;
+    let engine = random.below(2) as u32;
     let task = |at| {
         let mut rates = [0; MOST_CORES];
         rates[..cores].fill_with(|| random.between(least_rate, most_rate) as u8);
@@ -256,7 +256,7 @@ fn stretched(number: u64, slots: usize) -> Problem {
     };
     Problem {
         tasks: (0..count).map(task).collect(),
-        cores: cores as u8,
+        cores: cores as u32,
         engine,
         limit: LIMIT,
     }
@@ -267,7 +267,7 @@ fn stretched(number: u64, slots: usize) -> Problem {
 fn lengthened(number: u64, slots: usize) -> Problem {
     let mut random = Random::new(number);
     let cores = random.between(1, MOST_CORES);
-    let engine = random.below(2) as u8;
+    let engine = random.below(2) as u32;
     let rates = from_fn(|core| u8::from(core < cores));
     let task = |_| {
         let period = random.pick(&[2, 4]);
@@ -289,7 +289,7 @@ fn lengthened(number: u64, slots: usize) -> Problem {
     });
     Problem {
         tasks,
-        cores: cores as u8,
+        cores: cores as u32,
         engine,
         limit: LIMIT,
     }
@@ -338,7 +338,7 @@ fn full_list() -> Problem {
     };
     Problem {
         tasks: (0..MOST_CORES).map(task).collect(),
-        cores: MOST_CORES as u8,
+        cores: MOST_CORES as u32,
         engine: 1,
         limit: LIMIT,
     }

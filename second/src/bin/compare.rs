@@ -30,7 +30,7 @@ const TINY: u64 = 10;
 /// So many steps follow each start.
 const STEPS: usize = 5;
 
-/// So many lists of the largest size come first.
+/// So many lists of the largest size come first, then those with numbers out of range.
 const LARGE: usize = 12;
 
 fn main() -> ExitCode {
@@ -41,12 +41,12 @@ fn main() -> ExitCode {
         let problem = lists::large(&mut random);
         compare_search(&mut random, &mut tally, &problem);
     }
+    for problem in lists::out_of_range() {
+        compare_calls(&mut random, &mut tally, &problem);
+    }
     for list in 0..options.lists {
         let problem = lists::problem(&mut random);
-        compare_search(&mut random, &mut tally, &problem);
-        let table = lists::table(&mut random, &problem);
-        compare_check(&mut tally, &problem, &table);
-        compare_player(&mut random, &mut tally, &problem, &table);
+        compare_calls(&mut random, &mut tally, &problem);
         if list % TINY == 0 {
             compare_brute(&mut random, &mut tally);
         }
@@ -128,7 +128,18 @@ impl Tally {
 }
 
 fn shown(problem: &Problem) -> String {
-    String::from_utf8_lossy(&problem_text(problem)).into_owned()
+    let text = problem_text(problem);
+    let text = String::from_utf8_lossy(&text);
+    let (cores, engine) = (problem.cores, problem.engine);
+    format!("{text}{cores} cores, engine {engine}\n")
+}
+
+/// Searches; then checks and starts a table, good or bad.
+fn compare_calls(random: &mut Random, tally: &mut Tally, problem: &Problem) {
+    compare_search(random, tally, problem);
+    let table = lists::table(random, problem);
+    compare_check(tally, problem, &table);
+    compare_player(random, tally, problem, &table);
 }
 
 /// Searches, most often with a buffer that fits. What lies behind the table is compared too.
