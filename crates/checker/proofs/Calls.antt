@@ -15,7 +15,7 @@ use Rattle.checker.specs.Checks.{toldOf}
 use Rattle.checker.proofs.check_table as check-table
 
 -- the answer from what is told
-answerOf : Checked → Verdict
+pub answerOf : Checked → Verdict
 answerOf (refused number) = Refused number
 answerOf (checked noFault) = Valid
 answerOf (checked (inCell s j kind)) = Cell s j kind
@@ -28,6 +28,14 @@ answer-of Valid = refl
 answer-of (Cell s j kind) = refl
 answer-of (Job i k kind) = refl
 answer-of (Refused number) = refl
+
+-- and all that can be told is told of an answer
+pub told-of : (x : Checked) → toldOf (answerOf x) ≡ x
+unfolding toldOf answerOf
+told-of (refused number) = refl
+told-of (checked noFault) = refl
+told-of (checked (inCell s j kind)) = refl
+told-of (checked (inJob i k kind)) = refl
 
 -- 01's numbers tell the answers apart
 pub told-only : {x : Checked} (r r′ : Verdict) → toldOf r ≡ x → toldOf r′ ≡ x → r ≡ r′

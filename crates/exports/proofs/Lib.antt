@@ -2,4 +2,4 @@ mod CallLaws
 mod NarrowLaws
 mod NarrowCall
 mod TellCall
-mod Calls
+pub mod Calls

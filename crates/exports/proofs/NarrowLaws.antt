@@ -11,7 +11,7 @@ use lib.ListN.{length}
 use borrow.Author.Tests.{ltb-true, lt-leb, ne-eqb}
 use Rattle.tasks.specs.declared.Task.{Task}
 use Rattle.tasks.specs.Refusal.{within, unless, orNext, listRefusal, tableLength, refusal}
-use Rattle.tasks.specs.Instance.{instanceOf}
+use Rattle.tasks.specs.Instance.{ownInstance}
 use Rattle.tasks.proofs.AnswerLaws.{or-first}
 use Rattle.table.specs.Table.{cells}
 use Rattle.table.specs.Fault.{Checked, refused, check}
@@ -63,7 +63,7 @@ module _ (ts : List Task) where
 
   -- what a search tells that is not refused
   abbrev goes : ℕ → ℕ → ℕ → List ℕ → Searched
-  goes m e b t = told (cells (instanceOf (tableLength ts) m ts)) t (limited b (walked e (instanceOf (tableLength ts) m ts)))
+  goes m e b t = told (cells (ownInstance m ts)) t (limited b (walked e (ownInstance m ts)))
 
   search-refused : (m e b : ℕ) (t : List ℕ) → refusal m ts ≢ 0 → search m ts e b t ≡ record { verdict = refusal m ts; tries = 0; buffer = t }
   unfolding search searchRefusal
@@ -95,7 +95,7 @@ module _ (ts : List Task) where
   search-engine m b t {e} {e′} l l′ = ap (λ r. toldUnless r t (goes m e b t)) (nine l) ∙ go (refusal m ts) (goes m e b t) (goes m e′ b t) ∙ ap (λ r. toldUnless r t (goes m e′ b t)) (sym (nine l′))
     where
       nine : {e : ℕ} → 1 < e → searchRefusal m ts e (length t) ≡ orNext (refusal m ts) 9
-      nine {e} h = ap (λ b. orNext (refusal m ts) (unless b 9 (unless (leb (cells (instanceOf (tableLength ts) m ts)) (length t)) 10 0))) (lt-leb e 1 h)
+      nine {e} h = ap (λ b. orNext (refusal m ts) (unless b 9 (unless (leb (cells (ownInstance m ts)) (length t)) 10 0))) (lt-leb e 1 h)
 
       go : (r : ℕ) (s s′ : Searched) → toldUnless (orNext r 9) t s ≡ toldUnless (orNext r 9) t s′
       go zero s s′ = refl

@@ -14,7 +14,6 @@ use Rattle.player.specs.declared.Started.{Started}
 use Rattle.player.specs.Player.{stepped, afterStep, started, afterStart}
 use Rattle.player.proofs.step as step
 use Rattle.player.proofs.start_record as start-record
-use Rattle.player.proofs.start as start
 
 -- ---- step: it finds the record p, answers r and leaves the record p′
 abbrev pub Step : Player → ℕ → Shown → Player → Type 0
@@ -31,22 +30,9 @@ step-only p tick r r′ q q′ = only-both
 abbrev pub Starts : Player → List Task → ℕ → List ℕ → ℕ → Shown → Player → Type 0
 Starts p ts m t tick r p′ = (r ≡ started m ts t tick) × (p′ ≡ afterStart m ts t tick p)
 
--- ---- start
-abbrev pub Start : Player → TaskList → ℕ → List ℕ → ℕ → Shown → Player → Type 0
-Start p list = Starts p (rows list)
-
-start-says : (κs p list m table tick p′ list′ m′ table′ tick′ r : _)
-    → Says (λ M 𝓤 H A mem run. start.ensures-1 𝓤 H κs A mem run p list m table tick p′ list′ m′ table′ tick′ r)
-    (Start (now (p′ .entry)) list m (now (table′ .entry)) tick r (now (p′ .exit)))
-start-says κs p list m table tick p′ list′ m′ table′ tick′ r M 𝓤 H A mem run = refl
-
-pub start-only : (p : Player) (list : TaskList) (m : ℕ) (t : List ℕ) (tick : ℕ) (r r′ : Shown) (q q′ : Player)
-    → Start p list m t tick r q → Start p list m t tick r′ q′ → (r ≡ r′) × (q ≡ q′)
-start-only p list m t tick r r′ q q′ = only-both
-
 -- ---- start_record: a start on a record by value
 abbrev pub StartRecord : Player → TaskList → ℕ → List ℕ → ℕ → Started → Type 0
-StartRecord p list m t tick r = (r .shown ≡ started m (rows list) t tick) × (r .player ≡ afterStart m (rows list) t tick p)
+StartRecord p list m t tick r = Starts p (rows list) m t tick (r .shown) (r .player)
 
 start-record-says : (κs p list m table tick p′ list′ m′ table′ tick′ r : _)
     → Says (λ M 𝓤 H A mem run. start-record.ensures-1 𝓤 H κs A mem run p list m table tick p′ list′ m′ table′ tick′ r)

@@ -166,12 +166,3 @@ pub fn start_record(p: Player, list: TaskList, m: u8, table: &[u8], tick: u32) -
     let shown = first_shown(player, verdict);
     Started { player, shown }
 }
-
-// A start: the record is copied out, and the one that the start leaves is stored where it stands.
-pub fn start(p: &mut Player, list: TaskList, m: u8, table: &[u8], tick: u32) -> Shown
-    ensures { λ r. ⌜ (r ≡ started m (rows list) (now (table .entry)) tick) × (now (p .exit) ≡ afterStart m (rows list) (now (table .entry)) tick (now (p .entry))) ⌝ }
-{
-    let s = start_record(*p, list, m, table, tick);
-    *p = s.player;
-    s.shown
-}
