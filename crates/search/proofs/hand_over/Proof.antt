@@ -13,19 +13,19 @@ use Rattle.search.proofs.hand_over.Statement.{statement}
 use Rattle.search.proofs.hand_over.Tie as tie
 
 abbrev Inv-loop : tie.InvT-loop
-Inv-loop table₀ n found cells i₀ table i = (i ≤ n) × (length table ≡ length table₀) × (table ≡ filled table₀ 0 i (cellLeft found cells))
+Inv-loop table₀ n found cells i₀ table i = (table ≡ filled table₀ 0 i (cellLeft found cells)) × (i ≤ n) × (length table ≡ length table₀)
 
 abbrev μ-loop : tie.MeasureT-loop
 μ-loop table₀ n found cells i₀ table i = n - i
 
 loop-holds : tie.Need-loop-holds Inv-loop μ-loop
-loop-holds c = (search needs, search needs, filled-none _ _ _)
+loop-holds c = (filled-none _ _ _, search needs, search needs)
 
 loop-again : tie.Need-loop-again Inv-loop μ-loop
-loop-again c = (search needs, simp length-set (search needs), next-stored _ _ _ _ _ (c .before .before .loop .inv .2) (c .cell-left .ensures))
+loop-again c = (next-stored _ _ _ _ _ (c .before .before .loop .inv .0) (c .cell-left .ensures), search needs, simp length-set (search needs))
 
 returns : tie.Need-returns Inv-loop μ-loop
-returns c = all-stored _ _ _ _ _ _ (omega arith) (omega arith) (c .before .loop .inv .2)
+returns c = all-stored _ _ _ _ _ _ (omega arith) (omega arith) (c .before .loop .inv .0)
 
 pub hand-over-spec : {M : Type 1} → statement M
 hand-over-spec = tie.close (tie.spec
