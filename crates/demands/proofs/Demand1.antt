@@ -304,16 +304,18 @@ start-refuses ts m t p tick r p′ call = record {
 -- ---- a call of `check`
 pub check-refuses : (ts : List Task) (m : ℕ) (t : List ℕ) (r : Verdict) → Check ts m t r → CheckRefuses ts m t r
 unfolding checkedAs
-check-refuses ts m t r call = record { exact = λ k. (
-  λ e. ⊎-elim
-    (λ h. inl (h .1, subst (OfList m ts) (sym (h .0)) (list-of m ts)))
-    (λ h. inr (h .0, sound-none m ts (h .1), h .2))
-    (answer-tells ts m t r call .refuses-exact k .0 (ap checkedAs e)),
-  λ h. told-only r (Refused k) refl (sym (answer-tells ts m t r call .refuses-exact k .1 (⊎-elim
-    (λ q. inl (sym (list-is m ts (q .1)), q .0))
-    (λ q. inr (q .0, list-is m ts (q .1), q .2))
-    h))),
-) }
+check-refuses ts m t r call = record {
+  exact = λ k. (
+    λ e. ⊎-elim
+        (λ h. inl (h .1, subst (OfList m ts) (sym (h .0)) (list-of m ts)))
+        (λ h. inr (h .0, sound-none m ts (h .1), h .2))
+        (answer-tells ts m t r call .refuses-exact k .0 (ap checkedAs e)),
+    λ h. told-only r (Refused k) refl (sym (answer-tells ts m t r call .refuses-exact k .1 (⊎-elim
+        (λ q. inl (sym (list-is m ts (q .1)), q .0))
+        (λ q. inr (q .0, list-is m ts (q .1), q .2))
+        h))),
+  );
+}
 
 -- ---- a call of `plan`
 -- no refusal of a list is above 8
@@ -437,9 +439,9 @@ module _ (p : Player) (tick : ℕ) where
   step-of = ⊎-elim
       (λ x. subst (OfStep p tick) (sym (step-is (spoilt x))) (spoilt x))
       (λ u. ⊎-elim
-        (λ l. subst (OfStep p tick) (sym (step-is (none u l))) (none u l))
-        (λ l. subst (OfStep p tick) (sym (step-is (past u l))) (past u l))
-        (lt-or-ge (elapsedOf tick (p .last)) (2 ^ 31)))
+      (λ l. subst (OfStep p tick) (sym (step-is (none u l))) (none u l))
+      (λ l. subst (OfStep p tick) (sym (step-is (past u l))) (past u l))
+      (lt-or-ge (elapsedOf tick (p .last)) (2 ^ 31)))
       in-range
 
 pub step-refuses : (p : Player) (tick : ℕ) (r : Shown) (p′ : Player) → Step p tick r p′ → StepRefuses p tick r p′

@@ -48,8 +48,10 @@ pub same-text : (text text′ out out′ : List ℕ) (r r′ : ℕ) (u v : List 
     → (m : ℕ) (ts : List Task) (b : ℕ) → readProblem text ≡ problem m ts 1 b → readProblem text′ ≡ problem m ts 0 b → IsSound m ts
     → (q p : Searched) × WritesAnswer m ts q out r u × WritesAnswer m ts p out′ r′ v
     × Agree (ownInstance m ts) (walked 1 (ownInstance m ts)) (walked 0 (ownInstance m ts)) b q p
-same-text text text′ out out′ r r′ u v quick plain l l′ m ts b reads reads′ sound =
-    (search m ts 1 b (replicate 4096 0), search m ts 0 b (replicate 4096 0),
-    text-writes text out r u quick l m ts 1 b reads,
-    text-writes text′ out′ r′ v plain l′ m ts 0 b reads′,
-    agree m ts b (replicate 4096 0) (replicate 4096 0) sound (room m ts sound) (room m ts sound))
+same-text text text′ out out′ r r′ u v quick plain l l′ m ts b reads reads′ sound = (
+  search m ts 1 b (replicate 4096 0),
+  search m ts 0 b (replicate 4096 0),
+  text-writes text out r u quick l m ts 1 b reads,
+  text-writes text′ out′ r′ v plain l′ m ts 0 b reads′,
+  agree m ts b (replicate 4096 0) (replicate 4096 0) sound (room m ts sound) (room m ts sound),
+)
