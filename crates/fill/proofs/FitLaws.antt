@@ -13,6 +13,8 @@ use lib.Arith.{digits-div, digits-mod}
 use Rattle.laws.specs.Sum.{gate}
 use Rattle.laws.specs.Lists.{nth}
 use Rattle.laws.proofs.SumLaws.{lt-or-ge}
+use Rattle.tasks.specs.declared.Work.{Work}
+use Rattle.tasks.specs.Task.{workIn}
 use Rattle.sets.specs.Sets.{has}
 use Rattle.fill.specs.Board.{fitBit, fitMark}
 
@@ -23,15 +25,17 @@ module _ (rate w : ℕ) where
   unfolding fitBit gate
   no-rate z = rw (le-ltb 0 rate (omega arith))
 
-  -- a rate over the work
-  pub over-work : rate ≢ 0 → w < rate → 0 ≡ fitBit rate w
-  unfolding fitBit gate
-  over-work x l = rw (lt-ltb 0 rate (omega arith), lt-leb rate w l)
+  -- what a rate does in a slot
+  module _ (done : Work) (does : done ≡ workIn rate (record { 0 = 1 })) where
+    -- more than the work
+    pub over-work : rate ≢ 0 → w < done .0 → 0 ≡ fitBit rate w
+    unfolding fitBit gate
+    over-work x l = rw (lt-ltb 0 rate (omega arith), lt-leb rate w (omega (arith, l, ap (λ d. d .0) does)))
 
-  -- a rate that fits
-  pub fitting : rate ≢ 0 → rate ≤ w → 1 ≡ fitBit rate w
-  unfolding fitBit gate
-  fitting x l = rw (lt-ltb 0 rate (omega arith), le-leb rate w l)
+    -- or within it
+    pub fitting : rate ≢ 0 → done .0 ≤ w → 1 ≡ fitBit rate w
+    unfolding fitBit gate
+    fitting x l = rw (lt-ltb 0 rate (omega arith), le-leb rate w (omega (arith, l, ap (λ d. d .0) does)))
 
 -- ---- four bits
 -- a test as a bit

@@ -14,6 +14,7 @@ use board::TWINS;
 use tasks::Slots;
 use tasks::Task;
 use tasks::TaskList;
+use tasks::Work;
 use windows::Window;
 
 // Twice the counter of closed slots.
@@ -152,14 +153,15 @@ fn quick_mark(engine: u8, test: bool) -> u16
     if test { 1 } else { 0 }
 }
 
-// 1 if a rate is positive and within so much work.
-fn fit_bit(rate: u8, work: u8) -> u16
-    ensures { λ r. ⌜ (r ≡ fitBit rate work) × (r ≤ 1) ⌝ }
+// 1 if a rate is positive and what it does in a slot is within so much work.
+fn fit_bit(rate: u8, work: Work) -> u16
+    ensures { λ r. ⌜ (r ≡ fitBit rate (work .0)) × (r ≤ 1) ⌝ }
 {
     if rate == 0 {
         return 0;
     }
-    if work < rate { 0 } else { 1 }
+    let done = tasks::work_in(rate as u16, Slots(1));
+    if work.0 < done.0 { 0 } else { 1 }
 }
 
 // The mark at place x, sixteen a task: the cores, as bits, on which its rate is positive and within work x % 16.
@@ -168,7 +170,7 @@ fn fit_mark(rates: [u8; 64], x: usize) -> u16
     ensures { λ r. ⌜ r ≡ fitMark rates x ⌝ }
 {
     let k = x / 16 * 4;
-    let work = (x % 16) as u8;
+    let work = Work((x % 16) as u16);
     fit_bit(rates[k], work)
         + 2 * fit_bit(rates[k + 1], work)
         + 4 * fit_bit(rates[k + 2], work)
