@@ -10,9 +10,9 @@ use native.Mathlib.Nat.{mod-lt, mul-le-mul}
 use lib.Dec.{T, leb, ltb, leb→le, ltb→lt, le→leb, lt→ltb}
 use Rattle.laws.specs.Tests.{every}
 use Rattle.laws.specs.Lists.{tabFrom}
-use Rattle.laws.proofs.TestLaws.{make-both, every-holds, holds-every}
-use Rattle.tasks.specs.Refusal.{within, unless}
-use Rattle.tasks.proofs.SoundLaws.{within-is}
+use Rattle.laws.proofs.TestLaws.{every-holds, holds-every}
+use Rattle.tasks.specs.Refusal.{unless}
+use Rattle.tasks.proofs.SoundLaws.{within-is, is-within}
 use Rattle.tasks.proofs.AnswerLaws.{unless-yes, unless-no}
 use Rattle.clock.specs.declared.Next.{Next}
 use Rattle.clock.specs.declared.Shown.{Shown}
@@ -28,11 +28,6 @@ pub record Unspoilt (h position age m n : ℕ) : Type 0 where
   pub few-tasks : n ≤ 16
   pub in-table : position < h
   pub age-le : age ≤ 1024
-
--- a number in a range passes its test
-is-within : (low high x : ℕ) → low ≤ x → x ≤ high → T (within low high x)
-unfolding within
-is-within low high x a b = make-both (leb low x) (leb x high) (le→leb low x a) (le→leb x high b)
 
 -- tests that both passed
 unless-none : (a b : Bool) → unless a 12 (unless b 15 0) ≡ 0 → T a × T b

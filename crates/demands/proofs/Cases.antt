@@ -158,15 +158,10 @@ unfolding answer questions replies P1 P2 P3 P4 P5 P6 figure idle periods task on
 cases = refl
 
 -- ---- from text to text
--- the answer to a text
-answering : List ℕ → List ℕ
+-- the worked example
+example-answered : answerTo (bytes example) ≡ bytes "05000000000C\n06000001030000\n06000102030000\n06000202030000\n07\n"
 unfolding gate sum tabFrom over seek euclid gcdOf lcmOf lcmsOf within unless orNext ratesFit taskRefusal listRefusal tableLength refusal place highest instanceOf
     share done free walk tests permitted settled closed evenRates twin idleTried ruleA ruleB quickly told searchRefusal search
-    bytes sortOf two-bytes four isDigit digitOf pairs bytesOf before lines mayFollow rightNumber inPlace taskOf taken lengthRefusal frameRefusal lineRefusal placeRefusal readLines readWithin
+    bytes example sortOf two-bytes four isDigit digitOf pairs bytesOf before lines mayFollow rightNumber inPlace taskOf taken lengthRefusal frameRefusal lineRefusal placeRefusal readLines readWithin
     hexOf digits lineOf verdictFrame cellAt slotFrame slotLines writeAnswer searchAnswer answerOf
-answering text = answerTo text
-
--- the worked example
-example-answered : answering (bytes example) ≡ bytes "05000000000C\n06000001030000\n06000102030000\n06000202030000\n07\n"
-unfolding answering bytes example
 example-answered = refl

@@ -2,23 +2,24 @@
 -- Assumes nothing.
 use Prim.Native.Nat.{ℕ, zero, suc, _^_, _≤_, _<_}
 use native.Mathlib.Decide.{ℕ-discrete}
+use native.Mathlib.Nat.{mul-le-mul}
 use native.Mathlib.Omega.{arith}
 use mathlib.Core.Path.{_≡_, refl, sym, ap, subst, subst₂, _∙_}
 use mathlib.Core.Logic.{_≢_, _↔_, _⊎_, inl, inr, ⊎-elim}
 use mathlib.Core.Bool.{Bool, true, false}
 use mathlib.Core.List.{List, [], _∷_, _++_}
 use lib.Dec.{T, leb, leb→le, le→leb}
-use lib.ListN.{length, replicate}
+use lib.ListN.{length, replicate, length-replicate}
 use borrow.Author.Tests.{le-leb, lt-leb, ne-eqb}
 use Rattle.laws.specs.Sum.{gate}
 use Rattle.laws.specs.Lists.{nth, over, seek}
 use Rattle.laws.proofs.SumLaws.{gate-lt, gate-ge, lt-or-ge}
 use Rattle.laws.proofs.ListLaws.{first-is, first-none, first-zero, seek-before}
-use Rattle.laws.proofs.TestLaws.{make-both, all-fails}
+use Rattle.laws.proofs.TestLaws.{all-fails}
 use Rattle.tasks.specs.declared.Task.{Task}
 use Rattle.tasks.specs.Task.{rate, task}
 use Rattle.tasks.specs.Refusal.{within, unless, orNext, mostRate, ratesFit, taskRefusal, listRefusal, tableLength, refusal, IsSound}
-use Rattle.tasks.proofs.SoundLaws.{within-is, rates-at, sound-list}
+use Rattle.tasks.proofs.SoundLaws.{within-is, is-within, rates-at, sound-list}
 use Rattle.tasks.specs.Instance.{instanceOf, ownInstance}
 use Rattle.table.specs.Table.{cells, Valid}
 use Rattle.table.specs.Fault.{Fault, noFault, inCell, inJob, fault}
@@ -26,7 +27,8 @@ use Rattle.lines.specs.Lines.{digits, lineOf}
 use Rattle.frames.specs.Read.{refused, problem, readProblem}
 use Rattle.frames.proofs.ProblemLaws.{read-refused}
 use Rattle.answer.specs.Write.{verdictFrame, slotLines, writeAnswer, Written}
-use Rattle.rules.specs.Search.{Searched, toldUnless, searchRefusal, search}
+use Rattle.rules.specs.Search.{searchRefusal}
+use Rattle.rules.proofs.Told.{refused-told}
 use Rattle.rules.proofs.Demand2.{searches}
 use Rattle.search.specs.declared.Answer.{Answer}
 use Rattle.search.specs.Told.{toldOf}
@@ -42,7 +44,7 @@ use Rattle.clock.specs.Clock.{elapsedOf, stepRefusal, advanced, nextIf, nextOf,
 use Rattle.clock.proofs.StepLaws.{refused-spoilt, refused-past, not-refused}
 use Rattle.player.specs.declared.Player.{Player}
 use Rattle.player.specs.Player.{cellsOf, stored, stepped, afterStep, faultRefusal, checkRefusal, startRefusal, recordOf, firstShown, started, recordOr, afterStart}
-use Rattle.player.proofs.RecordLaws.{InRange}
+use Rattle.player.proofs.RecordLaws.{IsUnspoilt}
 use Rattle.player.proofs.Demand2.{start-verdict}
 use Rattle.player.proofs.Calls.{Step}
 use Rattle.planner.specs.Answer.{searchAnswer, answerOf, answerTo}
@@ -102,8 +104,8 @@ pub data Spoilt (p : Player) : Type 0 where
 -- the refusal of a step, 0 for none: 12, tested before 15
 pub data OfStep (p : Player) (tick : ℕ) : ℕ → Type 0 where
   spoilt : Spoilt p → OfStep p tick 12
-  past : InRange p → 2 ^ 31 ≤ elapsedOf tick (p .last) → OfStep p tick 15
-  none : InRange p → elapsedOf tick (p .last) < 2 ^ 31 → OfStep p tick 0
+  past : IsUnspoilt p → 2 ^ 31 ≤ elapsedOf tick (p .last) → OfStep p tick 15
+  none : IsUnspoilt p → elapsedOf tick (p .last) < 2 ^ 31 → OfStep p tick 0
 
 -- what a refused start or step shows and leaves: four 0 cells, missed 0, the record as it was
 pub record NothingShown (r : Shown) (p p′ : Player) : Type 0 where
@@ -121,8 +123,9 @@ pub record StartRefuses (ts : List Task) (m : ℕ) (t : List ℕ) (r : Shown) (p
   pub exact : (k : ℕ) → (r .verdict ≡ k) ↔ OfStart m ts t k
   pub refused : r .verdict ≢ 0 → NothingShown r p p′
 
--- a call of `plan`: 0, 13 and 14 are no refusals; a refusal reports 0 tries and leaves the buffer untouched
+-- a call of `plan`: it ends in 0, 13 or 14 exactly if it is not refused; a refusal reports 0 tries and leaves the buffer untouched
 pub record PlanRefuses (ts : List Task) (m e : ℕ) (t : List ℕ) (r : Answer) (t′ : List ℕ) : Type 0 where
+  pub not-refused : ((r .verdict ≡ 0) ⊎ ((r .verdict ≡ 13) ⊎ (r .verdict ≡ 14))) ↔ OfSearch m ts e t 0
   pub exact : (k : ℕ) → k ≢ 0 → ((r .verdict ≡ k) × (k ≤ 10)) ↔ OfSearch m ts e t k
   pub no-tries : {k : ℕ} → k ≢ 0 → OfSearch m ts e t k → r .tries ≡ 0
   pub untouched : {k : ℕ} → k ≢ 0 → OfSearch m ts e t k → t′ ≡ t
@@ -135,11 +138,11 @@ pub record CheckRefuses (ts : List Task) (m : ℕ) (t : List ℕ) (r : Verdict) 
 abbrev pub refusalText : ℕ → List ℕ
 refusalText k = lineOf (verdictFrame k 0) ++ lineOf (7 ∷ [])
 
--- a call of `plan_text` with room for the longest answer: a refusal, of the file or of its problem, is told so; and one without
+-- a call of `plan_text` with room for the longest answer: a refusal, 20 to 24 of the file or 1 to 9 of its problem, is told so; and one without
 pub record TextRefuses (text out : List ℕ) (r : ℕ) (out′ : List ℕ) : Type 0 where
-  pub of-file : 15376 ≤ length out → (k : ℕ) → readProblem text ≡ refused k → (k ≢ 0) × (r ≡ length (refusalText k)) × (out′ ≡ over (refusalText k) out)
+  pub of-file : 15376 ≤ length out → (k : ℕ) → readProblem text ≡ refused k → Within 20 24 k × (r ≡ length (refusalText k)) × (out′ ≡ over (refusalText k) out)
   pub of-problem : 15376 ≤ length out → (m : ℕ) (ts : List Task) (e b : ℕ) → readProblem text ≡ problem m ts e b
-      → (k : ℕ) → k ≢ 0 → OfSearch m ts e (replicate 4096 0) k → (r ≡ length (refusalText k)) × (out′ ≡ over (refusalText k) out)
+      → (k : ℕ) → k ≢ 0 → OfSearch m ts e (replicate 4096 0) k → (k ≤ 9) × (r ≡ length (refusalText k)) × (out′ ≡ over (refusalText k) out)
   pub no-room : length out < 15376 → (r ≡ 0) × (out′ ≡ out)
 
 -- ---- proofs
@@ -158,8 +161,7 @@ judge-next R x refuses goes = elim (ℕ-discrete x 0) [
 
 -- a number in a range passes its test
 passes : {low high x : ℕ} → Within low high x → T (within low high x)
-unfolding within
-passes {low} {high} {x} w = make-both (leb low x) (leb x high) (le→leb low x (w .0)) (le→leb x high (w .1))
+passes {low} {high} {x} w = is-within low high x (w .0) (w .1)
 
 -- one that is not fails
 fails : {low high x : ℕ} → Outside low high x → T (within low high x) → ⊥
@@ -253,6 +255,10 @@ module _ (m : ℕ) (ts : List Task) where
   sound-none : IsSound m ts → OfList m ts 0
   sound-none e = subst (OfList m ts) e list-of
 
+  -- a list is sound exactly if none of 1 to 8 refuses it
+  pub sound-exact : IsSound m ts ↔ OfList m ts 0
+  sound-exact = (sound-none, list-is)
+
 -- ---- a call of `start`
 module _ (m : ℕ) (ts : List Task) (t : List ℕ) where
   -- a table of a sound list is valid or not
@@ -318,6 +324,11 @@ check-refuses ts m t r call = record {
 }
 
 -- ---- a call of `plan`
+-- a sound list's table has at most 4096 cells
+pub own-cells : (m : ℕ) (ts : List Task) → IsSound m ts → cells (ownInstance m ts) ≤ 4096
+unfolding instanceOf
+own-cells m ts sound = let s = sound-list m ts sound in mul-le-mul {n₂ = 1024} {m₂ = 4} (s .few-slots) (s .few-cores)
+
 -- no refusal of a list is above 8
 task-most : {m : ℕ} {τ : Task} {k : ℕ} → OfTask m τ k → k ≤ 8
 task-most (period x) = omega arith
@@ -336,7 +347,7 @@ list-most (none a b each h) = omega arith
 
 module _ (m : ℕ) (ts : List Task) (e : ℕ) (t : List ℕ) where
   -- the definition's refusal of a search
-  search-of : OfSearch m ts e t (searchRefusal m ts e (length t))
+  pub search-of : OfSearch m ts e t (searchRefusal m ts e (length t))
   unfolding searchRefusal
   search-of =
       judge-next (OfSearch m ts e t) (refusal m ts) (λ x. of-list x (list-of m ts)) (λ z.
@@ -366,28 +377,35 @@ module _ (m : ℕ) (ts : List Task) (e : ℕ) (t : List ℕ) where
   search-none (short s a x) z = absurd (omega arith)
   search-none (none s a b) z = (list-is m ts s, a, b)
 
-  -- what the definition answers to a refused search
-  search-refused : (b : ℕ) {k : ℕ} → k ≢ 0 → OfSearch m ts e t k → search m ts e b t ≡ record { verdict = k; tries = 0; buffer = t }
-  unfolding search
-  search-refused b {k} x h = rw (search-is h) (go k _ x)
-    where
-      go : (k : ℕ) (s : Searched) → k ≢ 0 → toldUnless k t s ≡ record { verdict = k; tries = 0; buffer = t }
-      go zero s x = absurd (x refl)
-      go (suc k) s x = refl
+  -- a sound list's table of at most 4096 cells has room in as many
+  search-room : {k : ℕ} → 4096 ≤ length t → OfSearch m ts e t k → k ≤ 9
+  search-room l (of-list x h) = omega (arith, list-most h)
+  search-room l (engine s x) = omega arith
+  search-room l (short s a x) = absurd (omega (arith, l, x, own-cells m ts (list-is m ts s)))
+  search-room l (none s a b) = omega arith
 
 pub plan-refuses : (ts : List Task) (m e b : ℕ) (t : List ℕ) (r : Answer) (t′ : List ℕ) → Plan ts m e b t r t′ → PlanRefuses ts m e t r t′
 plan-refuses ts m e b t r t′ call = record {
+  not-refused = (only-none, λ h. ends (search-is m ts e t h));
   exact = λ k x. (λ h. exactly k x (h .0) (h .1), λ h. (ap (λ s. s .verdict) (told x h), search-most m ts e t h));
   no-tries = λ x h. ap (λ s. s .tries) (told x h);
   untouched = λ x h. ap (λ s. s .buffer) (told x h);
 }
   where
     told : {k : ℕ} → k ≢ 0 → OfSearch m ts e t k → toldOf r t′ ≡ record { verdict = k; tries = 0; buffer = t }
-    told x h = call ∙ search-refused m ts e t b x h
+    told x h = call ∙ refused-told m ts e b t _ (search-is m ts e t h) x
 
     -- a call that is not refused ends in 0, 13 or 14
     ends : searchRefusal m ts e (length t) ≡ 0 → (r .verdict ≡ 0) ⊎ ((r .verdict ≡ 13) ⊎ (r .verdict ≡ 14))
     ends z = let h = search-none m ts e t (search-of m ts e t) z in subst (λ s. (s .verdict ≡ 0) ⊎ ((s .verdict ≡ 13) ⊎ (s .verdict ≡ 14))) (sym call) (searches m ts e b t (h .0) (h .1) (h .2) .one-of-three)
+
+    -- and the other way
+    only-none : (r .verdict ≡ 0) ⊎ ((r .verdict ≡ 13) ⊎ (r .verdict ≡ 14)) → OfSearch m ts e t 0
+    only-none v = elim (ℕ-discrete (searchRefusal m ts e (length t)) 0) [
+      | yes z ↦ subst (OfSearch m ts e t) z (search-of m ts e t)
+      | no y ↦ (let q = ap (λ s. s .verdict) (told y (search-of m ts e t)) in let l = search-most m ts e t (search-of m ts e t) in
+          ⊎-elim (λ z. absurd (y (sym q ∙ z))) (⊎-elim (λ z. absurd (omega (arith, q, z, l))) (λ z. absurd (omega (arith, q, z, l)))) v)
+    ]
 
     exactly : (k : ℕ) → k ≢ 0 → r .verdict ≡ k → k ≤ 10 → OfSearch m ts e t k
     exactly k x v l = elim (ℕ-discrete (searchRefusal m ts e (length t)) 0) [
@@ -398,7 +416,7 @@ plan-refuses ts m e b t r t′ call = record {
 -- ---- a call of `step`
 module _ (p : Player) (tick : ℕ) where
   -- a record is spoilt or not
-  in-range : Spoilt p ⊎ InRange p
+  in-range : Spoilt p ⊎ IsUnspoilt p
   in-range =
       inside 1 1024 (p .h) (λ x. inl (slots x)) (λ a.
       inside 1 4 (p .m) (λ x. inl (cores x)) (λ b.
@@ -418,7 +436,7 @@ module _ (p : Player) (tick : ℕ) where
       inside low high x out goes = ⊎-elim (λ l. out (inl l)) (λ l. ⊎-elim (λ h. out (inr h)) (λ h. goes (l, h)) (lt-or-ge high x)) (lt-or-ge x low)
 
   -- not both
-  not-both : Spoilt p → InRange p → ⊥
+  not-both : Spoilt p → IsUnspoilt p → ⊥
   not-both (slots x) u = ⊎-elim (λ l. omega (arith, u .some-slot)) (λ l. omega (arith, u .few-slots)) x
   not-both (cores x) u = ⊎-elim (λ l. omega (arith, u .some-core)) (λ l. omega (arith, u .few-cores)) x
   not-both (tasks x) u = ⊎-elim (λ l. omega (arith, u .some-task)) (λ l. omega (arith, u .few-tasks)) x
@@ -485,8 +503,10 @@ written-not {text} {out} w l = (w .count ∙ rw (lt-leb 15376 (length out) l), w
 pub text-refuses : (text out : List ℕ) (r : ℕ) (out′ : List ℕ) → PlanText text out r out′ → TextRefuses text out r out′
 unfolding answerOf searchAnswer
 text-refuses text out r out′ call = record {
-  of-file = λ l k e. let x = read-refused text k e in let w = told k l (ap answerOf e ∙ refusal-written k 0 0 [] x) in (x, w .0, w .1);
-  of-problem = λ l m ts e b h k x q. told k l (ap answerOf h ∙ ap (searchAnswer m ts) (search-refused m ts e (replicate 4096 0) b x q) ∙ refusal-written k (tableLength ts) m (replicate 4096 0) x);
+  of-file = λ l k e. let n = read-refused text k e in let w = told k l (ap answerOf e ∙ refusal-written k 0 0 [] (λ z. omega (arith, n .0, z))) in (n, w .0, w .1);
+  of-problem = λ l m ts e b h k x q.
+      let w = told k l (ap answerOf h ∙ ap (searchAnswer m ts) (refused-told m ts e b (replicate 4096 0) k (search-is m ts e (replicate 4096 0) q) x) ∙ refusal-written k (tableLength ts) m (replicate 4096 0) x) in
+      (search-room m ts e (replicate 4096 0) (rw (length-replicate {A = ℕ} 4096 0) (omega arith)) q, w .0, w .1);
   no-room = written-not call;
 }
   where

@@ -2,19 +2,18 @@
 -- Assumes nothing.
 use Prim.Native.Nat.{ℕ, _^_, _≤_, _<_}
 use native.Mathlib.Omega.{arith}
-use native.Mathlib.Nat.{mul-le-mul}
 use mathlib.Core.Path.{_≡_, sym, ap, subst, _∙_}
-use mathlib.Core.Logic.{_≢_}
+use mathlib.Core.Logic.{_≢_, _↔_}
 use mathlib.Core.List.{List}
 use lib.ListN.{length, replicate, length-replicate}
-use Rattle.laws.specs.Lists.{nth, over}
+use Rattle.laws.specs.Lists.{over}
 use Rattle.tasks.specs.declared.Task.{Task}
 use Rattle.tasks.specs.Task.{rate, task}
 use Rattle.tasks.specs.Refusal.{tableLength, IsSound}
 use Rattle.tasks.specs.Instance.{instanceOf, ownInstance}
 use Rattle.tasks.proofs.SoundLaws.{sound-list, length-whole, sound-cyclic}
-use Rattle.table.specs.Table.{cells, Table}
-use Rattle.table.proofs.TableLaws.{no-rate}
+use Rattle.table.specs.Table.{cells, Valid}
+use Rattle.table.proofs.TableLaws.{serves-none}
 use Rattle.rules.specs.Search.{Searched, walked, search}
 use Rattle.rules.proofs.Demand2.{Searches, searches}
 use Rattle.search.specs.declared.Answer.{Answer}
@@ -22,17 +21,18 @@ use Rattle.search.specs.Told.{toldOf}
 use Rattle.frames.specs.Read.{problem, readProblem}
 use Rattle.answer.specs.Write.{writeAnswer}
 use Rattle.checker.specs.declared.Verdict.{Verdict}
-use Rattle.checker.specs.declared.Verdict.the-variants.{Valid}
+use Rattle.checker.specs.declared.Verdict.the-variants.{Valid as IsValid}
 use Rattle.checker.specs.Checks.{toldOf as checkedAs}
 use Rattle.checker.proofs.Demand2.{Tells, answer-tells}
 use Rattle.clock.specs.declared.Shown.{Shown}
 use Rattle.clock.specs.Clock.{elapsedAt}
+use Rattle.clock.proofs.ClockLaws.{tickAfter}
 use Rattle.player.specs.declared.Player.{Player}
 use Rattle.player.proofs.Demand2 as played
 use Rattle.player.proofs.Demand2.{Run, Keeps, Plays}
 use Rattle.planner.specs.Answer.{searchAnswer, answerOf}
-use Rattle.planner.proofs.Calls.{Plan, Check, PlanText}
-use Rattle.demands.proofs.Demand1.{written-room}
+use Rattle.planner.proofs.Calls.{Plan, Check, Start, PlanText}
+use Rattle.demands.proofs.Demand1.{own-cells, written-room}
 
 -- ---- statements
 -- a call of `plan_text` writes what a search s tells: 05 with its verdict and tries, the 06 lines for verdict 0, and 07
@@ -51,16 +51,16 @@ pub checks : (ts : List Task) (m : ℕ) (t : List ℕ) (r : Verdict) → Check t
 checks = answer-tells
 
 -- a list with a task of four zero rates: no table serves it
-pub unserved : (ts : List Task) (m i : ℕ) → IsSound m ts → i ≢ 0 → i ≤ length ts → ((j : ℕ) → j < 4 → rate (task ts i) j ≡ 0) → (t : List ℕ) → Table (ownInstance m ts) t → ⊥
+pub unserved : (ts : List Task) (m i : ℕ) → IsSound m ts → i ≢ 0 → i ≤ length ts → ((j : ℕ) → j < 4 → rate (task ts i) j ≡ 0)
+    → (f : ℕ → ℕ) → Valid (ownInstance m ts) f → ⊥
 unfolding instanceOf
-unserved ts m i sound x l zeros t h =
+unserved ts m i sound x l zeros f =
     let s = sound-list m ts sound in
-    no-rate (ownInstance m ts) (s .some-core) i 0 x l (sound-cyclic s (length-whole s) i x l .some-jobs) (s .in-range i x l .work-pos) (λ j k. zeros j (omega (arith, k, s .few-cores))) (nth t) (h .valid)
+    serves-none (ownInstance m ts) (s .some-core) i 0 x l (sound-cyclic s (length-whole s) i x l .some-jobs) (s .in-range i x l .work-pos) (λ j k. zeros j (omega (arith, k, s .few-cores))) f
 
 -- the planning program's buffer has room for every table
 pub room : (m : ℕ) (ts : List Task) → IsSound m ts → cells (ownInstance m ts) ≤ length {A = ℕ} (replicate 4096 0)
-unfolding instanceOf
-room m ts sound = let s = sound-list m ts sound in rw (length-replicate {A = ℕ} 4096 0) (mul-le-mul {n₂ = 1024} {m₂ = 4} (s .few-slots) (s .few-cores))
+room m ts sound = rw (length-replicate {A = ℕ} 4096 0) (own-cells m ts sound)
 
 -- a call of `plan_text` with room for the longest answer writes what the search of the text's problem tells
 pub text-writes : (text out : List ℕ) (r : ℕ) (out′ : List ℕ) → PlanText text out r out′ → 15376 ≤ length out
@@ -77,7 +77,7 @@ text-plans text out r out′ call l m ts e b reads sound engine =
     (search m ts e b (replicate 4096 0), searches m ts e b (replicate 4096 0) sound engine (room m ts sound), text-writes text out r out′ call l m ts e b reads)
 
 module _ (ts : List Task) (m : ℕ) (t : List ℕ) (p : Player) (tick : ℕ → ℕ) (n : ℕ) (shown : ℕ → Shown) (left : ℕ → Player)
-    (valid : Check ts m t Valid) (run : Run ts m t p tick n shown left) where
+    (valid : Check ts m t IsValid) (run : Run ts m t p tick n shown left) where
   -- a table that `check` finds valid, played by a call of `start` with the lent tasks and n calls of `step` with every elapsed number 1:
   -- each job from its first release gets exactly its work inside its own window
   pub plays : ((s : ℕ) → s < n → elapsedAt tick s ≡ 1) → Plays m ts t n shown
@@ -86,3 +86,11 @@ module _ (ts : List Task) (m : ℕ) (t : List ℕ) (p : Player) (tick : ℕ → 
   -- the same with any elapsed numbers below 2^31
   pub keeps : ((s : ℕ) → s < n → elapsedAt tick s < 2 ^ 31) → Keeps m ts t tick n shown left
   keeps = played.keeps ts m t p tick n shown left valid run
+
+-- a start is accepted exactly if `check` finds the table valid
+pub accepts : (ts : List Task) (m : ℕ) (t : List ℕ) (p p′ : Player) (tick : ℕ) (r : Shown) → Start p ts m t tick r p′ → (r .verdict ≡ 0) ↔ Check ts m t IsValid
+accepts = played.accepts
+
+-- the board's counter, from any tick on and across its wrap, has every elapsed number 1
+pub counts : (τ s : ℕ) → elapsedAt (tickAfter τ) s ≡ 1
+counts = played.counts

@@ -8,10 +8,9 @@ use Rattle.tasks.specs.declared.Task.{Task}
 use Rattle.tasks.specs.Refusal.{IsSound}
 use Rattle.tasks.specs.Instance.{ownInstance}
 use Rattle.table.specs.Table.{cells, Table}
-use Rattle.rules.specs.Walk.{table, tries}
 use Rattle.rules.specs.Rules.{rank}
-use Rattle.rules.specs.Right.{Right}
-use Rattle.rules.specs.Search.{Searched, walked, search}
+use Rattle.rules.specs.Right.{Right, Quicker}
+use Rattle.rules.specs.Search.{walked, search}
 use Rattle.rules.proofs.Told.{own-regular}
 use Rattle.rules.proofs.Demand2.{walks}
 use Rattle.rules.proofs.Demand3.{Agree, without-limit, agree}
@@ -26,16 +25,13 @@ use Rattle.demands.proofs.Demand2.{WritesAnswer, room, text-writes}
 pub record Unlimited (m : ℕ) (ts : List Task) : Type 0 where
   -- each finds the first valid table, or there is none
   pub right : (e : ℕ) → Right (rank (ownInstance m ts)) (Table (ownInstance m ts)) (walked e (ownInstance m ts))
-  -- both reach the same verdict and the same table, cell for cell
-  pub same-table : table (walked 1 (ownInstance m ts)) ≡ table (walked 0 (ownInstance m ts))
-  -- and the quick one takes no more tries
-  pub fewer : tries (walked 1 (ownInstance m ts)) ≤ tries (walked 0 (ownInstance m ts))
+  -- both reach the same verdict and the same table, cell for cell, and the quick one takes no more tries
+  pub quicker : Quicker (walked 1 (ownInstance m ts)) (walked 0 (ownInstance m ts))
 
 -- ---- proofs
 -- for every sound list
 pub unlimited : (m : ℕ) (ts : List Task) → IsSound m ts → Unlimited m ts
-unlimited m ts sound = let q = without-limit m ts sound in
-    record { right = walks (ownInstance m ts) (own-regular m ts sound) .walked-right; same-table = q .same-table; fewer = q .less }
+unlimited m ts sound = record { right = walks (ownInstance m ts) (own-regular m ts sound) .walked-right; quicker = without-limit m ts sound }
 
 -- two calls of `plan` on a sound list with the same limit, the quick and the plain, into any two buffers that are long enough
 pub same : (ts : List Task) (m b : ℕ) (t t′ : List ℕ) (q p : Answer) (u v : List ℕ) → Plan ts m 1 b t q u → Plan ts m 0 b t′ p v
@@ -46,11 +42,9 @@ same ts m b t t′ q p u v quick plain sound room room′ = rw (quick, plain) (a
 -- two calls of `plan_text` on texts that hold the same sound list and limit, for the quick engine and the plain
 pub same-text : (text text′ out out′ : List ℕ) (r r′ : ℕ) (u v : List ℕ) → PlanText text out r u → PlanText text′ out′ r′ v → 15376 ≤ length out → 15376 ≤ length out′
     → (m : ℕ) (ts : List Task) (b : ℕ) → readProblem text ≡ problem m ts 1 b → readProblem text′ ≡ problem m ts 0 b → IsSound m ts
-    → (q p : Searched) × WritesAnswer m ts q out r u × WritesAnswer m ts p out′ r′ v
-    × Agree (ownInstance m ts) (walked 1 (ownInstance m ts)) (walked 0 (ownInstance m ts)) b q p
+    → WritesAnswer m ts (search m ts 1 b (replicate 4096 0)) out r u × WritesAnswer m ts (search m ts 0 b (replicate 4096 0)) out′ r′ v
+    × Agree (ownInstance m ts) (walked 1 (ownInstance m ts)) (walked 0 (ownInstance m ts)) b (search m ts 1 b (replicate 4096 0)) (search m ts 0 b (replicate 4096 0))
 same-text text text′ out out′ r r′ u v quick plain l l′ m ts b reads reads′ sound = (
-  search m ts 1 b (replicate 4096 0),
-  search m ts 0 b (replicate 4096 0),
   text-writes text out r u quick l m ts 1 b reads,
   text-writes text′ out′ r′ v plain l′ m ts 0 b reads′,
   agree m ts b (replicate 4096 0) (replicate 4096 0) sound (room m ts sound) (room m ts sound),

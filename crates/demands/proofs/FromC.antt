@@ -1,25 +1,44 @@
--- What a call from C ensures is what the call over lent tasks ensures, its answer told as a number: the demands hold for both. The statements come first, then their proofs.
+-- The calls from C: each is the call over lent tasks, its answer told as a number that the header takes apart; so the demands hold for them. The statements come first, then their proofs.
 -- Assumes nothing.
-use Prim.Native.Nat.{ℕ, zero, suc, _^_, _≤_, _<_}
+use Prim.Native.Nat.{ℕ, zero, suc, _/_, _%_, _^_, _≤_, _<_}
+use native.Mathlib.Decide.{ℕ-discrete}
+use native.Mathlib.Omega.{arith}
 use mathlib.Core.Path.{_≡_, refl, sym, ap, _∙_}
+use mathlib.Core.Logic.{_↔_, ⊎-elim}
 use mathlib.Core.List.{List}
+use lib.Arith.{digits-div, digits-mod}
+use lib.ListN.{length}
+use Rattle.laws.proofs.SumLaws.{lt-or-ge}
 use Rattle.tasks.specs.declared.Task.{Task}
-use Rattle.table.specs.Fault.{check}
-use Rattle.rules.specs.Search.{search}
+use Rattle.tasks.specs.Instance.{ownInstance}
+use Rattle.table.specs.Fault.{noFault, inCell, inJob, Checked, refused, checked, check}
+use Rattle.rules.specs.Walk.{tries}
+use Rattle.rules.specs.Search.{Searched, walked, searchRefusal, search}
+use Rattle.rules.proofs.Told.{refused-told}
+use Rattle.rules.proofs.Demand2.{searches}
 use Rattle.search.specs.declared.Answer.{Answer}
-use Rattle.checker.specs.declared.Verdict.{Verdict}
+use Rattle.checker.specs.declared.Verdict.the-variants.{Valid}
 use Rattle.checker.specs.Checks.{toldOf}
-use Rattle.checker.proofs.Calls.{answerOf, told-of}
 use Rattle.clock.specs.declared.Shown.{Shown}
+use Rattle.clock.specs.declared.Next.{Next}
+use Rattle.clock.specs.Clock.{elapsedOf, elapsedAt, stepRefusal, advanced, nextIf, nextOf, answerOr}
 use Rattle.player.specs.declared.Player.{Player}
-use Rattle.player.specs.Player.{stepped, started}
+use Rattle.player.specs.Player.{cellsOf, stored, afterStep, stepped, recordOf, startRefusal, firstShown, started}
 use Rattle.player.proofs.Calls.{Step}
-use Rattle.player.proofs.Demand2.{Run}
+use Rattle.player.proofs.Demand2.{Run, Plays, Keeps}
 use Rattle.planner.proofs.Calls.{Plan, Check, Start}
-use Rattle.exports.specs.Packed.{withVerdict, checkedAs, ToldAs}
+use Rattle.exports.specs.Packed.{checkedAs, ToldAs}
 use Rattle.exports.proofs.Calls.{XiphomeraSearch, XiphomeraCheck, XiphomeraStart, XiphomeraStep}
+use Rattle.demands.proofs.Demand1.{search-of, search-none}
+use Rattle.demands.proofs.Demand2.{accepts, plays, keeps}
 
 -- ---- statements
+-- an answer as the header takes it apart: `xiphomera_verdict` is its upper half, `xiphomera_missed` its lower; and the four cells
+pub record Reads (r : ℕ) (cells : List ℕ) (s : Shown) : Type 0 where
+  pub verdict : r / 2 ^ 32 ≡ s .verdict
+  pub missed : r % 2 ^ 32 ≡ s .missed
+  pub shown : cells ≡ s .cells
+
 -- a board's program: `xiphomera_start` with the lent tasks at the first tick, and n calls of `xiphomera_step`, each at the next tick on the record that the call before it left
 pub record Board (ts : List Task) (m : ℕ) (t : List ℕ) (p : Player) (tick : ℕ → ℕ) (n : ℕ) (answer : ℕ → ℕ) (cells : ℕ → List ℕ) (left : ℕ → Player) : Type 0 where
   -- a tick has 32 bits
@@ -28,35 +47,108 @@ pub record Board (ts : List Task) (m : ℕ) (t : List ℕ) (p : Player) (tick : 
   pub steps : (s : ℕ) → s < n → XiphomeraStep (left s) (tick (suc s)) (answer (suc s)) (cells (suc s)) (left (suc s))
 
 -- ---- proofs
--- a search is a call of `plan`
-pub from-search : (ts : List Task) (m e b : ℕ) (t : List ℕ) (r : ℕ) (t′ : List ℕ) → XiphomeraSearch ts m e b t r t′
-    → (a : Answer) × Plan ts m e b t a t′ × (r ≡ withVerdict (a .verdict) (a .tries))
-from-search ts m e b t r t′ call = let s = search m ts e b t in
-    (record { verdict = s .verdict; tries = s .tries }, (λ i. record { verdict = s .verdict; tries = s .tries; buffer = call .left i }), call .answer)
+-- the halves of an answer
+halves : (r : ℕ) (c : List ℕ) (s : Shown) → ToldAs r c s → s .missed < 2 ^ 32 → Reads r c s
+halves r c s told l = record {
+  verdict = ap (λ x. x / 2 ^ 32) (told .answer) ∙ digits-div (s .verdict) l;
+  missed = ap (λ x. x % 2 ^ 32) (told .answer) ∙ digits-mod (s .verdict) l;
+  shown = told .shown;
+}
 
--- a check is a call of `check`
-pub from-check : (ts : List Task) (m : ℕ) (t : List ℕ) (r : ℕ) → XiphomeraCheck ts m t r → (v : Verdict) × Check ts m t v × (r ≡ checkedAs (toldOf v))
-from-check ts m t r call = (answerOf (check m ts t), told-of (check m ts t), call ∙ ap checkedAs (sym (told-of (check m ts t))))
+-- a search counts no further than its limit
+tries-most : (m : ℕ) (ts : List Task) (e b : ℕ) (t : List ℕ) → search m ts e b t .tries ≤ b
+tries-most m ts e b t = elim (ℕ-discrete (searchRefusal m ts e (length t)) 0) [
+  | no x ↦ omega (arith, ap (λ s. s .tries) (refused-told m ts e b t _ refl x))
+  | yes z ↦ (let h = search-none m ts e t (search-of m ts e t) z in let s = searches m ts e b t (h .0) (h .1) (h .2) in ⊎-elim
+      (λ l. omega (arith, s .stopped-tries (s .stops .1 l)))
+      (λ l. omega (arith, s .own-tries (λ q. omega (arith, s .stops .0 q, l)), l))
+      (lt-or-ge b (tries (walked e (ownInstance m ts)))))
+]
 
--- a start is a call of `start`
-pub from-start : (p : Player) (ts : List Task) (m : ℕ) (t : List ℕ) (tick r : ℕ) (cells : List ℕ) (p′ : Player) → XiphomeraStart p ts m t tick r cells p′
-    → (s : Shown) × Start p ts m t tick s p′ × ToldAs r cells s
-from-start p ts m t tick r cells p′ call = (started m ts t tick, (refl, call .1), call .0)
-
--- a step is a call of `step`
-pub from-step : (p : Player) (tick r : ℕ) (cells : List ℕ) (p′ : Player) → XiphomeraStep p tick r cells p′ → (s : Shown) × Step p tick s p′ × ToldAs r cells s
-from-step p tick r cells p′ call = (stepped p tick, (refl, call .1), call .0)
-
--- a board's program is a run of these calls
-pub from-board : (ts : List Task) (m : ℕ) (t : List ℕ) (p : Player) (tick : ℕ → ℕ) (n : ℕ) (answer : ℕ → ℕ) (cells : ℕ → List ℕ) (left : ℕ → Player)
-    → Board ts m t p tick n answer cells left
-    → (shown : ℕ → Shown) × Run ts m t p tick n shown left × ((s : ℕ) → s ≤ n → ToldAs (answer s) (cells s) (shown s))
-from-board ts m t p tick n answer cells left board = (shown, record { ticks = board .ticks; starts = (refl, board .starts .1); steps = λ s l. (refl, board .steps s l .1) }, told)
+-- a search is a call of `plan`; its answer has the verdict above the tries
+pub from-search : (ts : List Task) (m e b : ℕ) (t : List ℕ) (r : ℕ) (t′ : List ℕ) → XiphomeraSearch ts m e b t r t′ → b < 2 ^ 32
+    → (a : Answer) × Plan ts m e b t a t′ × (r / 2 ^ 32 ≡ a .verdict) × (r % 2 ^ 32 ≡ a .tries)
+from-search ts m e b t r t′ call l = (
+  record { verdict = s .verdict; tries = s .tries },
+  (λ i. record { verdict = s .verdict; tries = s .tries; buffer = call .left i }),
+  ap (λ x. x / 2 ^ 32) (call .answer) ∙ digits-div (s .verdict) few,
+  ap (λ x. x % 2 ^ 32) (call .answer) ∙ digits-mod (s .verdict) few,
+)
   where
-    shown : ℕ → Shown
-    shown zero = started m ts t (tick 0)
-    shown (suc s) = stepped (left s) (tick (suc s))
+    s : Searched
+    s = search m ts e b t
 
-    told : (s : ℕ) → s ≤ n → ToldAs (answer s) (cells s) (shown s)
-    told zero l = board .starts .0
-    told (suc s) l = board .steps s l .0
+    few : s .tries < 2 ^ 32
+    few = omega (arith, l, tries-most m ts e b t)
+
+-- a check answers 0 exactly if `check` finds the table valid
+pub from-check : (ts : List Task) (m : ℕ) (t : List ℕ) (r : ℕ) → XiphomeraCheck ts m t r → (r ≡ 0) ↔ Check ts m t Valid
+unfolding checkedAs toldOf
+from-check ts m t r call = (λ z. sym (none (check m ts t) (sym call ∙ z)), λ v. call ∙ ap checkedAs (sym v))
+  where
+    none : (x : Checked) → checkedAs x ≡ 0 → x ≡ checked noFault
+    none (checked noFault) z = refl
+    none (checked (inCell s j k)) z = absurd (omega arith)
+    none (checked (inJob i j k)) z = absurd (omega arith)
+    none (refused k) z = absurd (omega arith)
+
+-- a start shows what `start` shows
+start-reads : (p : Player) (ts : List Task) (m : ℕ) (t : List ℕ) (tick r : ℕ) (cells : List ℕ) (p′ : Player) → XiphomeraStart p ts m t tick r cells p′ → Reads r cells (started m ts t tick)
+unfolding started
+start-reads p ts m t tick r cells p′ call = halves r cells _ (call .0) (omega (arith, none (recordOf m ts t tick) (startRefusal m ts t)))
+  where
+    none : (p : Player) (k : ℕ) → firstShown p k .missed ≡ 0
+    none p zero = refl
+    none p (suc k) = refl
+
+pub from-start : (p : Player) (ts : List Task) (m : ℕ) (t : List ℕ) (tick r : ℕ) (cells : List ℕ) (p′ : Player) → XiphomeraStart p ts m t tick r cells p′
+    → (s : Shown) × Start p ts m t tick s p′ × Reads r cells s
+from-start p ts m t tick r cells p′ call = (started m ts t tick, (refl, call .1), start-reads p ts m t tick r cells p′ call)
+
+-- a step shows what `step` shows
+step-reads : (p : Player) (tick r : ℕ) (cells : List ℕ) (p′ : Player) → XiphomeraStep p tick r cells p′ → Reads r cells (stepped p tick)
+unfolding stepped afterStep nextOf
+step-reads p tick r cells p′ call = halves r cells _ (call .0) (few (stepRefusal (p .last) (p .h) (p .position) (p .age) (p .m) (p .n) tick))
+  where
+    next : ℕ → Next
+    next k = nextIf k (p .last) (p .position) (p .age) (advanced (p .h) (p .position) (p .age) (p .m) tick (elapsedOf tick (p .last)))
+
+    few : (k : ℕ) → answerOr (next k .verdict) (record { verdict = 0; cells = cellsOf (stored p (next k)); missed = next k .missed }) .missed < 2 ^ 32
+    few zero = omega arith
+    few (suc k) = omega arith
+
+pub from-step : (p : Player) (tick r : ℕ) (cells : List ℕ) (p′ : Player) → XiphomeraStep p tick r cells p′ → (s : Shown) × Step p tick s p′ × Reads r cells s
+from-step p tick r cells p′ call = (stepped p tick, (refl, call .1), step-reads p tick r cells p′ call)
+
+-- a board's program
+module _ (ts : List Task) (m : ℕ) (t : List ℕ) (p : Player) (tick : ℕ → ℕ) (n : ℕ) (answer : ℕ → ℕ) (cells : ℕ → List ℕ) (left : ℕ → Player)
+    (board : Board ts m t p tick n answer cells left) where
+  -- what its calls show
+  shown : ℕ → Shown
+  shown zero = started m ts t (tick 0)
+  shown (suc s) = stepped (left s) (tick (suc s))
+
+  run : Run ts m t p tick n shown left
+  unfolding shown
+  run = record { ticks = board .ticks; starts = (refl, board .starts .1); steps = λ s l. (refl, board .steps s l .1) }
+
+  reads : (s : ℕ) → s ≤ n → Reads (answer s) (cells s) (shown s)
+  unfolding shown
+  reads zero l = start-reads p ts m t (tick 0) (answer 0) (cells 0) (left 0) (board .starts)
+  reads (suc s) l = step-reads (left s) (tick (suc s)) (answer (suc s)) (cells (suc s)) (left (suc s)) (board .steps s l)
+
+  -- whose start is not refused
+  module _ (accepted : answer 0 / 2 ^ 32 ≡ 0) where
+    valid : Check ts m t Valid
+    unfolding shown
+    valid = accepts ts m t p (left 0) (tick 0) (shown 0) (refl, board .starts .1) .0 (sym (reads 0 (omega arith) .verdict) ∙ accepted)
+
+    -- with every elapsed number 1 it is shown what the table demands: each job from its first release gets exactly its work inside its own window
+    pub board-plays : ((s : ℕ) → s < n → elapsedAt tick s ≡ 1)
+        → (shown : ℕ → Shown) × Plays m ts t n shown × ((s : ℕ) → s ≤ n → Reads (answer s) (cells s) (shown s))
+    board-plays each = (shown, plays ts m t p tick n shown left valid run each, reads)
+
+    -- and with any elapsed numbers below 2^31 the cells of the time that has passed
+    pub board-keeps : ((s : ℕ) → s < n → elapsedAt tick s < 2 ^ 31)
+        → (shown : ℕ → Shown) × Keeps m ts t tick n shown left × ((s : ℕ) → s ≤ n → Reads (answer s) (cells s) (shown s))
+    board-keeps each = (shown, keeps ts m t p tick n shown left valid run each, reads)

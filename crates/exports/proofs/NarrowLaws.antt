@@ -18,6 +18,7 @@ use Rattle.table.specs.Fault.{Checked, refused, check}
 use Rattle.checker.proofs.TellLaws.{check-refused}
 use Rattle.rules.specs.Walk.{limited}
 use Rattle.rules.specs.Search.{Searched, walked, told, searchRefusal, toldUnless, search}
+use Rattle.rules.proofs.Told.{refused-told}
 use Rattle.search.specs.declared.Answer.{Answer}
 use Rattle.search.specs.Told.{toldOf}
 use Rattle.clock.specs.declared.Shown.{Shown}
@@ -66,12 +67,8 @@ module _ (ts : List Task) where
   goes m e b t = told (cells (ownInstance m ts)) t (limited b (walked e (ownInstance m ts)))
 
   search-refused : (m e b : ℕ) (t : List ℕ) → refusal m ts ≢ 0 → search m ts e b t ≡ record { verdict = refusal m ts; tries = 0; buffer = t }
-  unfolding search searchRefusal
-  search-refused m e b t x = ap (λ r. toldUnless r t (goes m e b t)) (sym (or-first (refusal m ts) (refusal m ts) _ refl x)) ∙ go (refusal m ts) (goes m e b t) x
-    where
-      go : (r : ℕ) (s : Searched) → r ≢ 0 → toldUnless r t s ≡ record { verdict = r; tries = 0; buffer = t }
-      go zero s x = absurd (x refl)
-      go (suc r) s x = refl
+  unfolding searchRefusal
+  search-refused m e b t x = refused-told m ts e b t (refusal m ts) (sym (or-first (refusal m ts) (refusal m ts) _ refl x)) x
 
   search-cores : (e b : ℕ) (t : List ℕ) {m m′ : ℕ} → 4 < m → 4 < m′ → search m ts e b t ≡ search m′ ts e b t
   search-cores e b t {m} {m′} l l′ =

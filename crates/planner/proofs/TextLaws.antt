@@ -107,7 +107,7 @@ searched-text text p size a t e z es ea =
     ∙ go (readProblem text) refl e
   where
     go : (r : Read) → readProblem text ≡ r → p ≡ told r → searchAnswer (p .m) (rows (p .list)) (search (p .m) (rows (p .list)) (p .engine) (p .limit) (replicate 4096 0)) ≡ answerOf r
-    go (refused k) h q = absurd (read-refused text k h (sym (ap (λ x. x .refusal) q) ∙ z))
+    go (refused k) h q = absurd (omega (arith, read-refused text k h .0, sym (ap (λ x. x .refusal) q) ∙ z))
     go (problem m ts engine limit) h q =
         (λ i. searchAnswer (q i .m) (rows (q i .list)) (search (q i .m) (rows (q i .list)) (q i .engine) (q i .limit) (replicate 4096 0)))
         ∙ ap (λ ts. searchAnswer m ts (search m ts engine limit (replicate 4096 0))) (rows-back ts (read-held text m engine limit ts h))

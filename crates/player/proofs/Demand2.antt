@@ -32,7 +32,7 @@ use Rattle.player.specs.declared.Player.{Player}
 use Rattle.player.specs.Player.{cellsOf, stepped, afterStep, checkRefusal, startRefusal, recordOf, firstShown, started, afterStart}
 use Rattle.player.specs.Played.{shownAs, shownAt, unitsIn}
 use Rattle.player.proofs.PlayLaws.{plays-work, plays-open, plays-rated, plays-once}
-use Rattle.player.proofs.RecordLaws.{InRange, moved, moved-none, moved-step, moved-answer, made-unspoilt, made-cells}
+use Rattle.player.proofs.RecordLaws.{IsUnspoilt, moved, moved-none, moved-step, moved-answer, made-unspoilt, made-cells}
 use Rattle.player.proofs.Calls.{Starts, Step}
 
 -- ---- statements
@@ -95,7 +95,7 @@ module _ (ts : List Task) (m : ℕ) (t : List ℕ) (p : Player) (tick : ℕ → 
   sl : SoundList m ts
   sl = sound-list m ts (met .0)
 
-  unspoilt : InRange made
+  unspoilt : IsUnspoilt made
   unspoilt = made-unspoilt sl t (tick 0)
 
   -- the table is accepted

@@ -26,8 +26,8 @@ use Rattle.player.proofs.PlayLaws.{cell-lt}
 
 -- ---- the record moved on
 -- its numbers are in range
-abbrev pub InRange : Player → Type 0
-InRange p = Unspoilt (p .h) (p .position) (p .age) (p .m) (p .n)
+abbrev pub IsUnspoilt : Player → Type 0
+IsUnspoilt p = Unspoilt (p .h) (p .position) (p .age) (p .m) (p .n)
 
 -- a record moved on by s slots: position modulo H, age not past 1024, last modulo 2^32
 abbrev pub moved : Player → ℕ → Player
@@ -42,7 +42,7 @@ moved p s = record {
   table = p .table;
 }
 
-module _ (p : Player) (u : InRange p) where
+module _ (p : Player) (u : IsUnspoilt p) where
   module _ (s e : ℕ) (l : e < 2 ^ 31) where
     -- a step that is in time moves the record on
     pub moved-step : afterStep (moved p s) (tickAfter (moved p s .last) e) ≡ moved p (s + e)
@@ -68,7 +68,7 @@ module _ {m : ℕ} {ts : List Task} (s : SoundList m ts) (table : List ℕ) (τ 
   made = recordOf m ts table τ
 
   -- the record of a start is not spoilt
-  pub made-unspoilt : InRange made
+  pub made-unspoilt : IsUnspoilt made
   unfolding recordOf
   made-unspoilt = record {
     some-slot = s .some-slot;

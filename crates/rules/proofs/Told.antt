@@ -1,7 +1,8 @@
 -- What a search tells of its walk, and what it leaves of the buffer.
 -- Assumes nothing.
-use Prim.Native.Nat.{ℕ, _≤_}
-use mathlib.Core.Path.{_≡_, ap, _∙_}
+use Prim.Native.Nat.{ℕ, zero, suc, _≤_}
+use mathlib.Core.Path.{_≡_, refl, ap, _∙_}
+use mathlib.Core.Logic.{_≢_}
 use mathlib.Core.List.{List}
 use lib.ListN.{length, take, drop, replicate, length-replicate}
 use lib.Seq.{take-at, drop-at}
@@ -13,7 +14,7 @@ use Rattle.tasks.specs.Instance.{ownInstance, Regular}
 use Rattle.tasks.proofs.SoundLaws.{sound-list, length-whole, instance-regular}
 use Rattle.table.specs.Table.{cells}
 use Rattle.rules.specs.Walk.{limited}
-use Rattle.rules.specs.Search.{walked, told, searchRefusal, search}
+use Rattle.rules.specs.Search.{Searched, walked, told, toldUnless, searchRefusal, search}
 
 -- n cells written over the start of a buffer
 pub over-take : (n : ℕ) (s t : List ℕ) → length s ≡ n → take n (over s t) ≡ s
@@ -38,6 +39,16 @@ pub search-told : (m : ℕ) (ts : List Task) (e b : ℕ) (buffer : List ℕ) →
     → search m ts e b buffer ≡ told (cells (ownInstance m ts)) buffer (limited b (walked e (ownInstance m ts)))
 unfolding search searchRefusal unless orNext
 search-told m ts e b buffer sound engine room = rw (sound, le-leb e 1 engine, le-leb (cells (ownInstance m ts)) (length buffer) room)
+
+-- a refusal that is not 0 is told with 0 tries, and the buffer is as it was
+pub refused-told : (m : ℕ) (ts : List Task) (e b : ℕ) (buffer : List ℕ) (k : ℕ) → searchRefusal m ts e (length buffer) ≡ k → k ≢ 0
+    → search m ts e b buffer ≡ record { verdict = k; tries = 0; buffer = buffer }
+unfolding search
+refused-told m ts e b buffer k h x = rw h (go k _ x)
+  where
+    go : (k : ℕ) (s : Searched) → k ≢ 0 → toldUnless k buffer s ≡ record { verdict = k; tries = 0; buffer = buffer }
+    go zero s x = absurd (x refl)
+    go (suc k) s x = refl
 
 -- the instance of a sound list is regular
 pub own-regular : (m : ℕ) (ts : List Task) → IsSound m ts → Regular (ownInstance m ts)

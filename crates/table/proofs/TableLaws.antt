@@ -107,10 +107,10 @@ module _ (P : Instance) (regular : Regular P) (f : ℕ → ℕ) (v : Valid P f) 
       ∙ sum-ext (P .jobs i) _ (λ k. P .work i) (λ k j. v .full i k x l j) ∙ sum-const (P .jobs i) (P .work i)
 
 -- a job of a task whose rates are all 0 gets no work, so no table serves it
-pub no-rate : (P : Instance) → 0 < P .cores → (i k : ℕ) → i ≢ 0 → i ≤ P .tasks → k < P .jobs i → 0 < P .work i → ((j : ℕ) → j < P .cores → P .rate i j ≡ 0)
+pub serves-none : (P : Instance) → 0 < P .cores → (i k : ℕ) → i ≢ 0 → i ≤ P .tasks → k < P .jobs i → 0 < P .work i → ((j : ℕ) → j < P .cores → P .rate i j ≡ 0)
     → (f : ℕ → ℕ) → Valid P f → ⊥
 unfolding done share
-no-rate P some-core i k x l h works none f v = omega (arith, works, v .full i k x l h, sum-zero (cells P) (λ c. share P i k c (f c)) (λ c _. nothing c))
+serves-none P some-core i k x l h works none f v = omega (arith, works, v .full i k x l h, sum-zero (cells P) (λ c. share P i k c (f c)) (λ c _. nothing c))
   where
     nothing : (c : ℕ) → share P i k c (f c) ≡ 0
     nothing c = rw (none (coreOf P c) (mod-lt c some-core)) (gate-zero _)

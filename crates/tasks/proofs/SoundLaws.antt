@@ -6,7 +6,7 @@ use mathlib.Core.Logic.{_≢_}
 use mathlib.Core.Bool.{Bool, true, false, cond}
 use mathlib.Core.List.{List}
 use native.Mathlib.Omega.{arith}
-use lib.Dec.{T, leb, ltb, leb→le, eqb·suc-zero}
+use lib.Dec.{T, leb, ltb, leb→le, le→leb, eqb·suc-zero}
 use lib.ListN.{length}
 use borrow.Author.Tests.{le-ltb}
 use Rattle.laws.specs.Lists.{nth}
@@ -37,6 +37,11 @@ rows-task l k h = tab-at (l .n) (taskAt l) k noTask h
 pub within-is : (low high x : ℕ) → T (within low high x) → (low ≤ x) × (x ≤ high)
 unfolding within
 within-is low high x t = let p = both (leb low x) (leb x high) .0 t in (leb→le low x (p .0), leb→le x high (p .1))
+
+-- and the other way
+pub is-within : (low high x : ℕ) → low ≤ x → x ≤ high → T (within low high x)
+unfolding within
+is-within low high x a b = both (leb low x) (leb x high) .1 (le→leb low x a, le→leb x high b)
 
 -- a test that did not refuse
 unless-none : (b : Bool) (k next : ℕ) → 0 < k → unless b k next ≡ 0 → T b × (next ≡ 0)
