@@ -17,7 +17,7 @@ extern "C" {
 
 /* Verdicts. */
 enum {
-    XIPHOMERA_FOUND = 0,         /* search: table found; check: valid; start and step: the cells are shown */
+    XIPHOMERA_FOUND = 0,         /* search: table found; start and step: the cells are shown */
     XIPHOMERA_BAD_COUNT = 1,     /* no task, or over 16 */
     XIPHOMERA_BAD_CORES = 2,     /* cores not 1..4 */
     XIPHOMERA_BAD_PERIOD = 3,    /* a period not 1..1024 */

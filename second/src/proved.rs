@@ -43,8 +43,8 @@ extern "C" {
     ) -> usize;
 }
 
-/// Room for the longest answer.
-const LONGEST_ANSWER: usize = 32768;
+/// Room for the longest answer: 05 in 13 bytes, 1024 slots of 15 bytes, 07 in 3.
+const LONGEST_ANSWER: usize = 13 + 1024 * 15 + 3;
 
 /// The verdict and the tries.
 pub fn search(problem: &Problem, table: &mut [u8]) -> (u32, u32) {
