@@ -19,14 +19,11 @@ use Rattle.laws.proofs.TestLaws.{all-fails}
 use Rattle.tasks.specs.declared.Task.{Task}
 use Rattle.tasks.specs.Task.{rate, task}
 use Rattle.tasks.specs.Refusal.{within, unless, orNext, mostRate, ratesFit, taskRefusal, listRefusal, tableLength, refusal, IsSound}
-use Rattle.tasks.proofs.SoundLaws.{within-is, is-within, rates-at, sound-list}
 use Rattle.tasks.specs.Instance.{instanceOf, ownInstance}
+use Rattle.tasks.proofs.SoundLaws.{within-is, is-within, rates-at, sound-list}
+use Rattle.tasks.proofs.AnswerLaws.{unless-yes, unless-no, rates-under, or-first, or-next}
 use Rattle.table.specs.Table.{cells, Valid}
 use Rattle.table.specs.Fault.{Fault, noFault, inCell, inJob, fault}
-use Rattle.lines.specs.Lines.{digits, lineOf}
-use Rattle.frames.specs.Read.{refused, problem, readProblem}
-use Rattle.frames.proofs.ProblemLaws.{read-refused}
-use Rattle.answer.specs.Write.{verdictFrame, slotLines, writeAnswer, Written}
 use Rattle.rules.specs.Search.{searchRefusal}
 use Rattle.rules.proofs.Told.{refused-told}
 use Rattle.rules.proofs.Demand2.{searches}
@@ -34,8 +31,8 @@ use Rattle.search.specs.declared.Answer.{Answer}
 use Rattle.search.specs.Told.{toldOf}
 use Rattle.checker.specs.declared.Verdict.{Verdict}
 use Rattle.checker.specs.declared.Verdict.the-variants.{Refused}
-use Rattle.checker.proofs.TellLaws.{check-refused, check-short, check-long}
 use Rattle.checker.specs.Checks.{toldOf as checkedAs}
+use Rattle.checker.proofs.TellLaws.{check-refused, check-short, check-long}
 use Rattle.checker.proofs.Calls.{told-only}
 use Rattle.checker.proofs.Demand2.{names, answer-tells}
 use Rattle.clock.specs.declared.Shown.{Shown}
@@ -47,9 +44,12 @@ use Rattle.player.specs.Player.{cellsOf, stored, stepped, afterStep, faultRefus
 use Rattle.player.proofs.RecordLaws.{IsUnspoilt}
 use Rattle.player.proofs.Demand2.{start-verdict}
 use Rattle.player.proofs.Calls.{Step}
+use Rattle.lines.specs.Lines.{digits, lineOf}
+use Rattle.frames.specs.Read.{refused, problem, readProblem}
+use Rattle.frames.proofs.ProblemLaws.{read-refused}
+use Rattle.answer.specs.Write.{verdictFrame, slotLines, writeAnswer, Written}
 use Rattle.planner.specs.Answer.{searchAnswer, answerOf, answerTo}
 use Rattle.planner.proofs.Calls.{Plan, Check, Start, PlanText}
-use Rattle.tasks.proofs.AnswerLaws.{unless-yes, unless-no, rates-under, or-first, or-next}
 
 -- ---- statements
 -- low..high, and not

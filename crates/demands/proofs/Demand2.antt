@@ -18,8 +18,6 @@ use Rattle.rules.specs.Search.{Searched, walked, search}
 use Rattle.rules.proofs.Demand2.{Searches, searches}
 use Rattle.search.specs.declared.Answer.{Answer}
 use Rattle.search.specs.Told.{toldOf}
-use Rattle.frames.specs.Read.{problem, readProblem}
-use Rattle.answer.specs.Write.{writeAnswer}
 use Rattle.checker.specs.declared.Verdict.{Verdict}
 use Rattle.checker.specs.declared.Verdict.the-variants.{Valid as IsValid}
 use Rattle.checker.specs.Checks.{toldOf as checkedAs}
@@ -30,6 +28,8 @@ use Rattle.clock.proofs.ClockLaws.{tickAfter}
 use Rattle.player.specs.declared.Player.{Player}
 use Rattle.player.proofs.Demand2 as played
 use Rattle.player.proofs.Demand2.{Run, Keeps, Plays}
+use Rattle.frames.specs.Read.{problem, readProblem}
+use Rattle.answer.specs.Write.{writeAnswer}
 use Rattle.planner.specs.Answer.{searchAnswer, answerOf}
 use Rattle.planner.proofs.Calls.{Plan, Check, Start, PlanText}
 use Rattle.demands.proofs.Demand1.{own-cells, written-room}
