@@ -222,7 +222,7 @@ module _ (m : ℕ) (ts : List Task) where
       (lt-or-ge (seek (length ts) at) (length ts))
 
   -- the definition's refusal of a list
-  list-of : OfList m ts (refusal m ts)
+  pub list-of : OfList m ts (refusal m ts)
   unfolding refusal listRefusal
   list-of =
       judge (OfList m ts) _ (λ x. count (outside _ _ _ x)) (λ a.
@@ -338,7 +338,7 @@ task-most (offset a b c x) = omega arith
 task-most (rates a b c d j l x) = omega arith
 task-most (none a b c d h) = omega arith
 
-list-most : {m : ℕ} {ts : List Task} {k : ℕ} → OfList m ts k → k ≤ 8
+pub list-most : {m : ℕ} {ts : List Task} {k : ℕ} → OfList m ts k → k ≤ 8
 list-most (count x) = omega arith
 list-most (cores a x) = omega arith
 list-most (of-task a b i l each x h) = task-most h

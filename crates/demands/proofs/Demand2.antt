@@ -1,4 +1,4 @@
--- Demand 2 over the calls that users make: verdicts exact both ways, the first table, the checker, and a table as a board plays it. The statements come first, then their proofs.
+-- Demand 2 over the calls that users make: verdicts exact both ways, the first table, the checker, and a table as a board plays it. The words come first, then the theorems.
 -- Assumes nothing.
 use Prim.Native.Nat.{ℕ, _^_, _≤_, _<_}
 use native.Mathlib.Omega.{arith}
@@ -34,13 +34,13 @@ use Rattle.planner.specs.Answer.{searchAnswer, answerOf}
 use Rattle.planner.proofs.Calls.{Plan, Check, Start, PlanText}
 use Rattle.demands.proofs.Demand1.{own-cells, written-room}
 
--- ---- statements
+-- ---- words
 -- a call of `plan_text` writes what a search s tells: 05 with its verdict and tries, the 06 lines for verdict 0, and 07
 pub record WritesAnswer (m : ℕ) (ts : List Task) (s : Searched) (out : List ℕ) (r : ℕ) (out′ : List ℕ) : Type 0 where
   pub count : r ≡ length (writeAnswer (s .verdict) (s .tries) (tableLength ts) m (s .buffer))
   pub holds : out′ ≡ over (writeAnswer (s .verdict) (s .tries) (tableLength ts) m (s .buffer)) out
 
--- ---- proofs
+-- ---- theorems
 -- a call of `plan` on a sound list, by either engine, with any limit, into a buffer that is long enough
 pub plans : (ts : List Task) (m e b : ℕ) (t : List ℕ) (r : Answer) (t′ : List ℕ) → Plan ts m e b t r t′ → IsSound m ts → e ≤ 1 → cells (ownInstance m ts) ≤ length t
     → Searches (ownInstance m ts) (walked e (ownInstance m ts)) b t (toldOf r t′)

@@ -1,4 +1,4 @@
--- Demand 3 over the calls that users make: the engines agree, without a limit for every sound list, and with one wherever neither stops. The statements come first, then their proofs.
+-- Demand 3 over the calls that users make: the engines agree, without a limit for every sound list, and with one wherever neither stops. The words come first, then the theorems.
 -- Assumes nothing.
 use Prim.Native.Nat.{ℕ, _≤_}
 use mathlib.Core.Path.{_≡_}
@@ -20,7 +20,7 @@ use Rattle.frames.specs.Read.{problem, readProblem}
 use Rattle.planner.proofs.Calls.{Plan, PlanText}
 use Rattle.demands.proofs.Demand2.{WritesAnswer, room, text-writes}
 
--- ---- statements
+-- ---- words
 -- the walks of a sound list without a limit
 pub record Unlimited (m : ℕ) (ts : List Task) : Type 0 where
   -- each finds the first valid table, or there is none
@@ -28,7 +28,7 @@ pub record Unlimited (m : ℕ) (ts : List Task) : Type 0 where
   -- both reach the same verdict and the same table, cell for cell, and the quick one takes no more tries
   pub quicker : Quicker (walked 1 (ownInstance m ts)) (walked 0 (ownInstance m ts))
 
--- ---- proofs
+-- ---- theorems
 -- for every sound list
 pub unlimited : (m : ℕ) (ts : List Task) → IsSound m ts → Unlimited m ts
 unlimited m ts sound = record { right = walks (ownInstance m ts) (own-regular m ts sound) .walked-right; quicker = without-limit m ts sound }

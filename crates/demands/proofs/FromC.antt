@@ -1,24 +1,33 @@
--- The calls from C: each is the call over lent tasks, its answer told as a number that the header takes apart; so the demands hold for them. The statements come first, then their proofs.
+-- The calls from C: each is the call over lent tasks, its answer told as a number that the header takes apart; so the demands hold for them. The words come first, then the theorems.
 -- Assumes nothing.
 use Prim.Native.Nat.{ℕ, zero, suc, _/_, _%_, _^_, _≤_, _<_}
 use native.Mathlib.Decide.{ℕ-discrete}
+use native.Mathlib.Nat.{mod-lt, div-le-self}
 use native.Mathlib.Omega.{arith}
-use mathlib.Core.Path.{_≡_, refl, sym, ap, _∙_}
+use mathlib.Core.Path.{_≡_, refl, sym, ap, subst₂, _∙_}
 use mathlib.Core.Logic.{_↔_, ⊎-elim}
 use mathlib.Core.List.{List}
 use lib.Arith.{digits-div, digits-mod}
 use lib.ListN.{length}
 use Rattle.laws.proofs.SumLaws.{lt-or-ge}
 use Rattle.tasks.specs.declared.Task.{Task}
-use Rattle.tasks.specs.Instance.{ownInstance}
-use Rattle.table.specs.Fault.{noFault, inCell, inJob, Checked, refused, checked, check}
+use Rattle.tasks.specs.Task.{task}
+use Rattle.tasks.specs.Refusal.{refusal, tableLength, IsSound}
+use Rattle.tasks.specs.Instance.{Instance, instanceOf, ownInstance}
+use Rattle.tasks.proofs.SoundLaws.{sound-list}
+use Rattle.table.specs.Fault.{Fault, noFault, inCell, inJob, Checked, refused, checked, check}
 use Rattle.rules.specs.Walk.{tries}
 use Rattle.rules.specs.Search.{Searched, walked, searchRefusal, search}
 use Rattle.rules.proofs.Told.{refused-told}
 use Rattle.rules.proofs.Demand2.{searches}
 use Rattle.search.specs.declared.Answer.{Answer}
+use Rattle.checker.specs.declared.Verdict.{Verdict}
 use Rattle.checker.specs.declared.Verdict.the-variants.{Valid}
 use Rattle.checker.specs.Checks.{toldOf}
+use Rattle.checker.specs.Faulty.{Wrong, unknown, closed, unrated, twice, WrongWork, too-little, too-much}
+use Rattle.checker.proofs.TellLaws.{check-refused}
+use Rattle.checker.proofs.Calls.{answerOf, told-of}
+use Rattle.checker.proofs.Demand2.{tells}
 use Rattle.clock.specs.declared.Shown.{Shown}
 use Rattle.clock.specs.declared.Next.{Next}
 use Rattle.clock.specs.Clock.{elapsedOf, elapsedAt, stepRefusal, advanced, nextIf, nextOf, answerOr}
@@ -27,17 +36,31 @@ use Rattle.player.specs.Player.{cellsOf, stored, afterStep, stepped, recordOf, 
 use Rattle.player.proofs.Calls.{Step}
 use Rattle.player.proofs.Demand2.{Run, Plays, Keeps}
 use Rattle.planner.proofs.Calls.{Plan, Check, Start}
-use Rattle.exports.specs.Packed.{checkedAs, ToldAs}
+use Rattle.exports.specs.Packed.{packedAs, checkedAs, ToldAs}
 use Rattle.exports.proofs.Calls.{XiphomeraSearch, XiphomeraCheck, XiphomeraStart, XiphomeraStep}
-use Rattle.demands.proofs.Demand1.{search-of, search-none}
+use Rattle.demands.proofs.Demand1.{list-of, list-most, own-cells, search-of, search-none}
 use Rattle.demands.proofs.Demand2.{accepts, plays, keeps}
 
--- ---- statements
+-- ---- words
 -- an answer as the header takes it apart: `xiphomera_verdict` is its upper half, `xiphomera_missed` its lower; and the four cells
 pub record Reads (r : ℕ) (cells : List ℕ) (s : Shown) : Type 0 where
   pub verdict : r / 2 ^ 32 ≡ s .verdict
   pub missed : r % 2 ^ 32 ≡ s .missed
   pub shown : cells ≡ s .cells
+
+-- a check's answer as the header takes it apart: `xiphomera_class`, `_a`, `_b`, `_c`
+pub record Parts (r class a b c : ℕ) : Type 0 where
+  pub class-is : r / 2 ^ 48 ≡ class
+  pub a-is : r / 2 ^ 32 % 2 ^ 16 ≡ a
+  pub b-is : r / 2 ^ 16 % 2 ^ 16 ≡ b
+  pub c-is : r % 2 ^ 16 ≡ c
+
+-- class 0 is valid; 1 a faulty cell: slot, core, kind; 2 a faulty job: task, job, kind; 3 a refusal: 0, 0, its number
+abbrev pub ReadsCheck : ℕ → Checked → Type 0
+ReadsCheck r (checked noFault) = Parts r 0 0 0 0
+ReadsCheck r (checked (inCell slot core kind)) = Parts r 1 slot core kind
+ReadsCheck r (checked (inJob task job kind)) = Parts r 2 task job kind
+ReadsCheck r (refused number) = Parts r 3 0 0 number
 
 -- a board's program: `xiphomera_start` with the lent tasks at the first tick, and n calls of `xiphomera_step`, each at the next tick on the record that the call before it left
 pub record Board (ts : List Task) (m : ℕ) (t : List ℕ) (p : Player) (tick : ℕ → ℕ) (n : ℕ) (answer : ℕ → ℕ) (cells : ℕ → List ℕ) (left : ℕ → Player) : Type 0 where
@@ -46,7 +69,7 @@ pub record Board (ts : List Task) (m : ℕ) (t : List ℕ) (p : Player) (tick : 
   pub starts : XiphomeraStart p ts m t (tick 0) (answer 0) (cells 0) (left 0)
   pub steps : (s : ℕ) → s < n → XiphomeraStep (left s) (tick (suc s)) (answer (suc s)) (cells (suc s)) (left (suc s))
 
--- ---- proofs
+-- ---- theorems
 -- the halves of an answer
 halves : (r : ℕ) (c : List ℕ) (s : Shown) → ToldAs r c s → s .missed < 2 ^ 32 → Reads r c s
 halves r c s told l = record {
@@ -81,10 +104,62 @@ from-search ts m e b t r t′ call l = (
     few : s .tries < 2 ^ 32
     few = omega (arith, l, tries-most m ts e b t)
 
--- a check answers 0 exactly if `check` finds the table valid
-pub from-check : (ts : List Task) (m : ℕ) (t : List ℕ) (r : ℕ) → XiphomeraCheck ts m t r → (r ≡ 0) ↔ Check ts m t Valid
+-- four numbers, told as one
+parts : (class a b c : ℕ) → a < 2 ^ 16 → b < 2 ^ 16 → c < 2 ^ 16 → Parts (packedAs class a b c) class a b c
+parts class a b c la lb lc = record { class-is = omega arith; a-is = omega arith; b-is = omega arith; c-is = omega arith }
+
+-- no kind of fault is above 6
+kind-most : {P : Instance} {f : ℕ → ℕ} {c kind : ℕ} → Wrong P f c kind → kind ≤ 6
+kind-most (unknown x) = omega arith
+kind-most (closed x l y) = omega arith
+kind-most (unrated x l o z) = omega arith
+kind-most (twice x l o z d h s e) = omega arith
+
+work-most : {P : Instance} {f : ℕ → ℕ} {i k kind : ℕ} → WrongWork P f i k kind → kind ≤ 6
+work-most (too-little x) = omega arith
+work-most (too-much x) = omega arith
+
+module _ (ts : List Task) (m : ℕ) (t : List ℕ) where
+  -- a table that is looked at is a sound list's
+  looked-at : (x : Fault) → check m ts t ≡ checked x → IsSound m ts
+  looked-at x e = elim (ℕ-discrete (refusal m ts) 0) [
+    | yes z ↦ z
+    | no y ↦ (let q : refused (refusal m ts) ≡ checked x = sym (check-refused m ts t y) ∙ e in let w : _≡_ {A = ℕ} 0 1 = cc in absurd (omega arith))
+  ]
+
+  -- the numbers of a check's answer
+  check-reads : (x : Checked) → check m ts t ≡ x → ReadsCheck (checkedAs x) x
+  unfolding checkedAs instanceOf
+  check-reads (checked noFault) e = parts 0 0 0 0 (omega arith) (omega arith) (omega arith)
+  check-reads (checked (inCell s j kind)) e =
+      let h = tells m ts t .names-cell s j kind e in
+      let l = sound-list m ts (looked-at _ e) in
+      parts 1 s j kind
+      (omega (arith, h .slot-is, h .inside, own-cells m ts (looked-at _ e), div-le-self (h .cell) m))
+      (omega (arith, h .core-is, mod-lt (h .cell) (l .some-core), l .few-cores))
+      (omega (arith, kind-most (h .is-wrong)))
+  check-reads (checked (inJob i k kind)) e =
+      let h = tells m ts t .names-job i k kind e in
+      let l = sound-list m ts (looked-at _ e) in
+      parts 2 i k kind
+      (omega (arith, h .task-in, l .few-tasks))
+      (omega (arith, h .job-in, l .few-slots, div-le-self (tableLength ts) (task ts i .period .0)))
+      (omega (arith, work-most (h .is-wrong)))
+  check-reads (refused k) e = parts 3 0 0 k (omega arith) (omega arith) (⊎-elim
+      (λ h. omega (arith, h .0, list-most (list-of m ts)))
+      (λ h. omega (arith, h .0))
+      (tells m ts t .refuses-exact k .0 e))
+
+  -- a check is a call of `check`
+  pub from-check : (r : ℕ) → XiphomeraCheck ts m t r → (v : Verdict) × Check ts m t v × ReadsCheck r (toldOf v)
+  from-check r call =
+      let v = told-of (check m ts t) in
+      (answerOf (check m ts t), v, subst₂ ReadsCheck (sym call) (sym v) (check-reads (check m ts t) refl))
+
+-- and answers 0 exactly if `check` finds the table valid
+pub from-valid : (ts : List Task) (m : ℕ) (t : List ℕ) (r : ℕ) → XiphomeraCheck ts m t r → (r ≡ 0) ↔ Check ts m t Valid
 unfolding checkedAs toldOf
-from-check ts m t r call = (λ z. sym (none (check m ts t) (sym call ∙ z)), λ v. call ∙ ap checkedAs (sym v))
+from-valid ts m t r call = (λ z. sym (none (check m ts t) (sym call ∙ z)), λ v. call ∙ ap checkedAs (sym v))
   where
     none : (x : Checked) → checkedAs x ≡ 0 → x ≡ checked noFault
     none (checked noFault) z = refl
