@@ -11,39 +11,39 @@ use Rattle.tasks.specs.Task.{rows}
 use Rattle.table.specs.Fault.{noFault, inCell, inJob, Checked, refused, checked, check}
 use Rattle.checker.specs.declared.Verdict.{Verdict}
 use Rattle.checker.specs.declared.Verdict.the-variants.{Valid, Cell, Job, Refused}
-use Rattle.checker.specs.Checks.{toldOf}
+use Rattle.checker.specs.Checks.{checkedAs}
 use Rattle.checker.proofs.check_table as check-table
 
 -- the answer from what is told
-pub answerOf : Checked → Verdict
-answerOf (refused number) = Refused number
-answerOf (checked noFault) = Valid
-answerOf (checked (inCell s j kind)) = Cell s j kind
-answerOf (checked (inJob i k kind)) = Job i k kind
+pub verdictFrom : Checked → Verdict
+verdictFrom (refused number) = Refused number
+verdictFrom (checked noFault) = Valid
+verdictFrom (checked (inCell s j kind)) = Cell s j kind
+verdictFrom (checked (inJob i k kind)) = Job i k kind
 
 -- is the answer
-answer-of : (r : Verdict) → answerOf (toldOf r) ≡ r
-unfolding toldOf answerOf
+answer-of : (r : Verdict) → verdictFrom (checkedAs r) ≡ r
+unfolding checkedAs verdictFrom
 answer-of Valid = refl
 answer-of (Cell s j kind) = refl
 answer-of (Job i k kind) = refl
 answer-of (Refused number) = refl
 
 -- and all that can be told is told of an answer
-pub told-of : (x : Checked) → toldOf (answerOf x) ≡ x
-unfolding toldOf answerOf
+pub told-of : (x : Checked) → checkedAs (verdictFrom x) ≡ x
+unfolding checkedAs verdictFrom
 told-of (refused number) = refl
 told-of (checked noFault) = refl
 told-of (checked (inCell s j kind)) = refl
 told-of (checked (inJob i k kind)) = refl
 
 -- 01's numbers tell the answers apart
-pub told-only : {x : Checked} (r r′ : Verdict) → toldOf r ≡ x → toldOf r′ ≡ x → r ≡ r′
-told-only r r′ = only-told toldOf answerOf answer-of
+pub told-only : {x : Checked} (r r′ : Verdict) → checkedAs r ≡ x → checkedAs r′ ≡ x → r ≡ r′
+told-only r r′ = only-told checkedAs verdictFrom answer-of
 
 -- a call of the checker for the tasks ts, however they are handed over, answers r
 abbrev pub Checks : List Task → ℕ → List ℕ → Verdict → Type 0
-Checks ts m t r = toldOf r ≡ check m ts t
+Checks ts m t r = checkedAs r ≡ check m ts t
 
 -- ---- check_table
 abbrev pub CheckTable : TaskList → ℕ → List ℕ → Verdict → Type 0

@@ -22,7 +22,7 @@ use Rattle.table.specs.Table.{cells, slotOf, coreOf, free}
 use Rattle.table.specs.Fault.{knownKind, cellKind}
 use Rattle.faults.specs.Tests.{freeIn, counterAt}
 use Rattle.checker.specs.declared.Effect.the-variants.{Nothing, Does, Faulty}
-use Rattle.checker.specs.Checks.{instanceFor, Ready, At, effectOf}
+use Rattle.checker.specs.Checks.{instanceFor, Checkable, At, effectOf}
 use Rattle.checker.proofs.FaultLaws.{after, kind-unknown, kind-known}
 
 -- ---- what fits
@@ -34,7 +34,7 @@ pub record Small (P : Instance) : Type 0 where
   pub few-jobs : (i : ℕ) → P .jobs i ≤ 1024
   pub few-units : (i j : ℕ) → i ≢ 0 → i ≤ P .tasks → j < P .cores → P .rate i j ≤ 15
 
-module _ {list : TaskList} {m h : ℕ} {t : List ℕ} (ready : Ready list m h t) where
+module _ {list : TaskList} {m h : ℕ} {t : List ℕ} (ready : Checkable list m h t) where
   -- the list is sound
   listed : SoundList m (rows list)
   listed = sound-list m (rows list) (ready .sound)

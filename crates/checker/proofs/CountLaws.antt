@@ -19,7 +19,7 @@ use Rattle.tasks.proofs.SoundLaws.{rows-length, rows-task}
 use Rattle.table.specs.Fault.{firstJob, checked, inJob}
 use Rattle.faults.specs.Tests.{countedKind}
 use Rattle.checker.specs.declared.Verdict.the-variants.{Valid, Job}
-use Rattle.checker.specs.Checks.{toldOf, jobFaultIn}
+use Rattle.checker.specs.Checks.{checkedAs, jobFaultIn}
 
 -- the first fault of the jobs of the task at place j
 pub row : List ℕ → ℕ → List Task → ℕ → ℕ
@@ -46,8 +46,8 @@ module _ (list : TaskList) (place : ℕ) (l : place < list .n) {τ : Task} (e : 
     -- one is, and none of an earlier task
     pub row-told : ((j : ℕ) → j < place → row counters h (rows list) j ≡ 0) → job < h / τ .period .0
         → {kind : ℕ} → kind ≡ countedKind counters place (τ .work .0) job
-        → toldOf (Job (place + 1) job kind) ≡ checked (jobFaultIn counters h (rows list))
-    unfolding toldOf jobFaultIn firstJob row
+        → checkedAs (Job (place + 1) job kind) ≡ checked (jobFaultIn counters h (rows list))
+    unfolding checkedAs jobFaultIn firstJob row
     row-told none k {kind} ek =
         rw (at, lt-ltb place (length (rows list)) (rw rows-length l))
         (λ i. checked (inJob (add-one place i) (job-is i) ((ek ∙ (λ i. countedKind counters place (same i .work .0) (job-is i))) i)))
@@ -67,7 +67,7 @@ module _ (list : TaskList) (place : ℕ) (l : place < list .n) {τ : Task} (e : 
 
 -- none of any task is faulty
 pub rows-told : (list : TaskList) (counters : List ℕ) (h i : ℕ) → i ≤ list .n → list .n ≤ i → ((j : ℕ) → j < i → row counters h (rows list) j ≡ 0)
-    → toldOf Valid ≡ checked (jobFaultIn counters h (rows list))
-unfolding toldOf jobFaultIn firstJob row
+    → checkedAs Valid ≡ checked (jobFaultIn counters h (rows list))
+unfolding checkedAs jobFaultIn firstJob row
 rows-told list counters h i a b none =
     rw (seek-none (length (rows list)) (row counters h (rows list)) (λ j q. none j (omega (arith, rows-length list))), le-ltb (length (rows list)) (length (rows list)) (omega arith))

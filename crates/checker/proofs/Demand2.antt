@@ -16,7 +16,7 @@ use Rattle.tasks.proofs.SoundLaws.{sound-list}
 use Rattle.table.specs.Table.{cells, Valid}
 use Rattle.table.specs.Fault.{Fault, noFault, inCell, inJob, fault, Checked, refused, checked, check}
 use Rattle.checker.specs.declared.Verdict.{Verdict}
-use Rattle.checker.specs.Checks.{toldOf}
+use Rattle.checker.specs.Checks.{checkedAs}
 use Rattle.checker.specs.Faulty.{FirstCell, FirstJob}
 use Rattle.checker.proofs.FaultLaws.{Says, named, faultless, none-valid, valid-none}
 use Rattle.checker.proofs.Calls.{Checks}
@@ -113,5 +113,5 @@ module _ (m : ℕ) (ts : List Task) (t : List ℕ) where
   ]
 
 -- so does the answer of a call
-pub answer-tells : (ts : List Task) (m : ℕ) (t : List ℕ) (r : Verdict) → Checks ts m t r → Tells m ts t (toldOf r)
+pub answer-tells : (ts : List Task) (m : ℕ) (t : List ℕ) (r : Verdict) → Checks ts m t r → Tells m ts t (checkedAs r)
 answer-tells ts m t r e = subst (Tells m ts t) (sym e) (tells m ts t)

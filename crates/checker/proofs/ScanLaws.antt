@@ -30,7 +30,7 @@ use Rattle.faults.specs.Tests.{counterAt}
 use Rattle.checker.specs.declared.Verdict.the-variants.{Valid, Cell}
 use Rattle.checker.specs.declared.Effect.{Effect}
 use Rattle.checker.specs.declared.Effect.the-variants.{Nothing, Does, Faulty}
-use Rattle.checker.specs.Checks.{toldOf, instanceFor, Ready, At, effectIf, effectOf, Counted, cellFault, Scanned}
+use Rattle.checker.specs.Checks.{checkedAs, instanceFor, Checkable, At, effectIf, effectOf, Counted, cellFault, CellsTold}
 use Rattle.checker.specs.Faulty.{Fine}
 use Rattle.checker.proofs.FaultLaws.{after, kind-idle, kind-fine}
 use Rattle.checker.proofs.CellLaws.{Small, ready-small, slot-of, core-of, cell-in}
@@ -197,8 +197,8 @@ module _ {P : Instance} {f : ℕ → ℕ} {counters : List ℕ} where
 
     -- at a faulty cell
     pub stops : c < cells P → {kind : ℕ} → effectOf P f c ≡ Faulty kind → {s j : ℕ} → slotOf P c ≡ s → coreOf P c ≡ j
-        → Scanned P f (Cell s (j + 1) kind) counters
-    unfolding toldOf cellFault
+        → CellsTold P f (Cell s (j + 1) kind) counters
+    unfolding checkedAs cellFault
     stops l {kind} e {s} {j} es ej =
         let q = faulty-is P f c kind e in
         let at : seek (cells P) (cellKind P f) ≡ c = seek-is (cells P) c (cellKind P f) l (p .clean) (λ z. q .1 (sym (q .0) ∙ z)) in
@@ -211,8 +211,8 @@ module _ {P : Instance} {f : ℕ → ℕ} {counters : List ℕ} where
         next = rw add-one (ap suc (sym ej))
 
   -- after the last cell
-  pub ends : Passed P f (cells P) counters → Scanned P f Valid counters
-  unfolding toldOf cellFault
+  pub ends : Passed P f (cells P) counters → CellsTold P f Valid counters
+  unfolding checkedAs cellFault
   ends p =
       let at : seek (cells P) (cellKind P f) ≡ cells P = seek-none (cells P) (cellKind P f) (p .clean) in
       record {
@@ -245,11 +245,11 @@ module _ {list : TaskList} {m h : ℕ} {t : List ℕ} {slot core : ℕ} (at : At
   works-at q = as-far (works p (ready-small (at .ready)) (cell-there at) (sym e ∙ q)) (omega arith)
 
   -- at a faulty cell
-  pub stops-at : {kind : ℕ} → r ≡ Faulty kind → Scanned (instanceFor list m h) (nth t) (Cell slot (core + 1) kind) counters
+  pub stops-at : {kind : ℕ} → r ≡ Faulty kind → CellsTold (instanceFor list m h) (nth t) (Cell slot (core + 1) kind) counters
   stops-at q = stops p (cell-there at) (sym e ∙ q) (slot-of at) (core-of at)
 
 -- after the last slot
-pub ends-at : {list : TaskList} {m h : ℕ} {t : List ℕ} → Ready list m h t → {slot : ℕ} {counters : List ℕ}
-    → Passed (instanceFor list m h) (nth t) (slot * m) counters → slot ≡ h → Scanned (instanceFor list m h) (nth t) Valid counters
+pub ends-at : {list : TaskList} {m h : ℕ} {t : List ℕ} → Checkable list m h t → {slot : ℕ} {counters : List ℕ}
+    → Passed (instanceFor list m h) (nth t) (slot * m) counters → slot ≡ h → CellsTold (instanceFor list m h) (nth t) Valid counters
 unfolding instanceOf
 ends-at {m = m} ready p e = ends (as-far p (ap (λ n. n * m) e))

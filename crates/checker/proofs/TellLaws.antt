@@ -30,7 +30,7 @@ use Rattle.faults.specs.Tests.{counterAt, countedKind}
 use Rattle.checker.proofs.Verdict.{the-type}
 use Rattle.checker.specs.declared.Verdict.{Verdict}
 use Rattle.checker.specs.declared.Verdict.the-variants.{Valid, Cell, Job, Refused}
-use Rattle.checker.specs.Checks.{toldOf, instanceFor, Ready, Counted, cellFault, Scanned, jobFaultIn}
+use Rattle.checker.specs.Checks.{checkedAs, instanceFor, Checkable, Counted, cellFault, CellsTold, jobFaultIn}
 use Rattle.checker.proofs.CellLaws.{Small, few-listed, few-slots, ready-small}
 
 -- ---- refusals
@@ -94,7 +94,7 @@ job-same n jobs g h e = ⊎-elim
     under l = ⊎-elim (λ q. q) (λ q. absurd (seek-some n (λ j. firstOf (jobs (suc j)) (h (suc j))) l (gate-ge _ _ _ q))) (lt-or-ge (seek (jobs (suc i)) (h (suc i))) (jobs (suc i)))
 
 -- the counters tell the first faulty job
-jobs-counted : {list : TaskList} {m h : ℕ} {t : List ℕ} → Ready list m h t → {counters : List ℕ} → Counted (instanceFor list m h) (nth t) (cells (instanceFor list m h)) counters
+jobs-counted : {list : TaskList} {m h : ℕ} {t : List ℕ} → Checkable list m h t → {counters : List ℕ} → Counted (instanceFor list m h) (nth t) (cells (instanceFor list m h)) counters
     → jobFaultIn counters h (rows list) ≡ jobFault (instanceFor list m h) (nth t)
 unfolding instanceOf jobFaultIn countedKind
 jobs-counted {list} {m} {h} {t} ready {counters} n = job-same (length (rows list)) (instanceFor list m h .jobs)
@@ -106,13 +106,13 @@ jobs-counted {list} {m} {h} {t} ready {counters} n = job-same (length (rows list
 
 -- ---- the answer
 -- what is told of a valid table
-valid-told : checked noFault ≡ toldOf Valid
-unfolding toldOf
+valid-told : checked noFault ≡ checkedAs Valid
+unfolding checkedAs
 valid-told = refl
 
 -- nothing else is told so
-not-valid : (r : Verdict) → OneOf (1 ∷ 2 ∷ 3 ∷ []) (tagOf the-type r) → toldOf r ≡ checked noFault → ⊥
-unfolding toldOf
+not-valid : (r : Verdict) → OneOf (1 ∷ 2 ∷ 3 ∷ []) (tagOf the-type r) → checkedAs r ≡ checked noFault → ⊥
+unfolding checkedAs
 not-valid Valid o e = ⊎-elim (λ p. absurd (omega arith)) (λ p. ⊎-elim (λ q. absurd (omega arith)) (λ q. absurd (omega arith)) p) o
 not-valid (Cell s j k) o e = let z : _≡_ {A = ℕ} 0 1 = cc in omega arith
 not-valid (Job i k d) o e = let z : _≡_ {A = ℕ} 0 1 = cc in omega arith
@@ -127,8 +127,8 @@ few-cells list m {s} {len} e q =
 
 module _ (list : TaskList) (m : ℕ) (t : List ℕ) {s : Soundness} (e : testedAs s ≡ tested m (rows list)) where
   -- a list that is refused
-  pub refused-told : {number : ℕ} → s ≡ NotSound number → toldOf (Refused number) ≡ check m (rows list) t
-  unfolding toldOf
+  pub refused-told : {number : ℕ} → s ≡ NotSound number → checkedAs (Refused number) ≡ check m (rows list) t
+  unfolding checkedAs
   refused-told {number} q =
       let r = tested-refused m (rows list) s e number q in
       ap refused (r .0) ∙ sym (check-refused m (rows list) t (λ z. r .1 (r .0 ∙ z)))
@@ -138,15 +138,15 @@ module _ (list : TaskList) (m : ℕ) (t : List ℕ) {s : Soundness} (e : testedA
     sound = tested-sound m (rows list) s e len q
 
     -- a buffer that is too short
-    pub short-told : length t < len .0 * m → toldOf (Refused 10) ≡ check m (rows list) t
-    unfolding toldOf instanceOf
+    pub short-told : length t < len .0 * m → checkedAs (Refused 10) ≡ check m (rows list) t
+    unfolding checkedAs instanceOf
     short-told l = sym (check-short m (rows list) t (sound .0) (subst (λ h. length t < h * m) (sound .1) l))
 
     -- one that is not
-    pub ready-there : len .0 * m ≤ length t → Ready list m (len .0) t
+    pub ready-there : len .0 * m ≤ length t → Checkable list m (len .0) t
     ready-there l = record { sound = sound .0; slots = sound .1; long = l }
 
-module _ {list : TaskList} {m h : ℕ} {t : List ℕ} (ready : Ready list m h t) where
+module _ {list : TaskList} {m h : ℕ} {t : List ℕ} (ready : Checkable list m h t) where
   -- before the first cell no work is done
   pub counted-none : Counted (instanceFor list m h) (nth t) 0 (replicate 16384 0)
   unfolding done sum
@@ -166,21 +166,21 @@ module _ {list : TaskList} {m h : ℕ} {t : List ℕ} (ready : Ready list m h t)
   check-is = check-long m (rows list) t (ready .sound) (subst (λ n. n * m ≤ length t) (ready .slots) (ready .long))
       ∙ ap (λ n. checked (fault (instanceOf n m (rows list)) (nth t))) (sym (ready .slots))
 
-  module _ {r : Verdict} {counters : List ℕ} (scan : Scanned (instanceFor list m h) (nth t) r counters) where
+  module _ {r : Verdict} {counters : List ℕ} (scan : CellsTold (instanceFor list m h) (nth t) r counters) where
     -- no cell is faulty: the jobs
-    pub jobs-told : r ≡ Valid → (r′ : Verdict) → toldOf r′ ≡ checked (jobFaultIn counters h (rows list)) → toldOf r′ ≡ check m (rows list) t
+    pub jobs-told : r ≡ Valid → (r′ : Verdict) → checkedAs r′ ≡ checked (jobFaultIn counters h (rows list)) → checkedAs r′ ≡ check m (rows list) t
     jobs-told q r′ told =
         told
         ∙ ap checked (jobs-counted ready (subst (λ c. Counted (instanceFor list m h) (nth t) c counters) (none .1) (scan .counted)) ∙ sym (none .0))
         ∙ sym check-is
       where
         clean : checked noFault ≡ checked (cellFault (instanceFor list m h) (nth t))
-        clean = valid-told ∙ ap toldOf (sym q) ∙ scan .told
+        clean = valid-told ∙ ap checkedAs (sym q) ∙ scan .told
 
         none : (fault (instanceFor list m h) (nth t) ≡ jobFault (instanceFor list m h) (nth t))
             × (seek (cells (instanceFor list m h)) (cellKind (instanceFor list m h) (nth t)) ≡ cells (instanceFor list m h))
         none = cell-none (instanceFor list m h) (nth t) (cc clean)
 
     -- one is
-    pub cell-told : OneOf (1 ∷ 2 ∷ 3 ∷ []) (tagOf the-type r) → toldOf r ≡ check m (rows list) t
+    pub cell-told : OneOf (1 ∷ 2 ∷ 3 ∷ []) (tagOf the-type r) → checkedAs r ≡ check m (rows list) t
     cell-told o = scan .told ∙ ap checked (sym (cell-first (instanceFor list m h) (nth t) (λ z. not-valid r o (scan .told ∙ ap checked z)))) ∙ sym check-is

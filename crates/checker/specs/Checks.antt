@@ -20,25 +20,25 @@ use Rattle.checker.specs.declared.Effect.{Effect}
 use Rattle.checker.specs.declared.Effect.the-variants.{Nothing, Does, Faulty}
 
 -- the answer by 01's numbers: valid; slot, core and kind; task, job and kind; or the refusal
-unfoldable pub toldOf : Verdict → Checked
-toldOf Valid = checked noFault
-toldOf (Cell slot core kind) = checked (inCell slot core kind)
-toldOf (Job task job kind) = checked (inJob task job kind)
-toldOf (Refused number) = refused number
+unfoldable pub checkedAs : Verdict → Checked
+checkedAs Valid = checked noFault
+checkedAs (Cell slot core kind) = checked (inCell slot core kind)
+checkedAs (Job task job kind) = checked (inJob task job kind)
+checkedAs (Refused number) = refused number
 
 -- what a table of h slots on m cores is checked for
 abbrev pub instanceFor : TaskList → ℕ → ℕ → Instance
 instanceFor list m h = instanceOf h m (rows list)
 
 -- none of 1 to 8 and 10 refuses: the list is sound, its tables have h slots, and t has all cells
-pub record Ready (list : TaskList) (m h : ℕ) (t : List ℕ) : Type 0 where
+pub record Checkable (list : TaskList) (m h : ℕ) (t : List ℕ) : Type 0 where
   pub sound : IsSound m (rows list)
   pub slots : h ≡ tableLength (rows list)
   pub long : h * m ≤ length t
 
 -- and (slot, core) is one of the cells, cores counted from 0
 pub record At (list : TaskList) (m h : ℕ) (t : List ℕ) (slot core : ℕ) : Type 0 where
-  pub ready : Ready list m h t
+  pub ready : Checkable list m h t
   pub slot-in : slot < h
   pub core-in : core < m
 
@@ -65,8 +65,8 @@ cellFault P f =
     faultIf (ltb c (cells P)) (inCell (slotOf P c) (suc (coreOf P c)) (cellKind P f c)) noFault
 
 -- what is told of the cells, with the work of those before the first faulty one
-pub record Scanned (P : Instance) (f : ℕ → ℕ) (r : Verdict) (counters : List ℕ) : Type 0 where
-  pub told : toldOf r ≡ checked (cellFault P f)
+pub record CellsTold (P : Instance) (f : ℕ → ℕ) (r : Verdict) (counters : List ℕ) : Type 0 where
+  pub told : checkedAs r ≡ checked (cellFault P f)
   pub counted : Counted P f (seek (cells P) (cellKind P f)) counters
 
 -- ---- jobs

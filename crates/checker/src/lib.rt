@@ -5,7 +5,7 @@ ghost use Rattle.laws.specs.Lists.{nth};
 ghost use Rattle.tasks.specs.Task.{rows};
 ghost use Rattle.tasks.specs.Refusal.{Periods};
 ghost use Rattle.table.specs.Fault.{check, checked};
-ghost use Rattle.checker.specs.Checks.{toldOf, instanceFor, Ready, At, effectOf, Counted, Scanned, jobFaultIn};
+ghost use Rattle.checker.specs.Checks.{checkedAs, instanceFor, Checkable, At, effectOf, Counted, CellsTold, jobFaultIn};
 use faults::UNKNOWN_TASK;
 use tasks::Slots;
 use tasks::Soundness;
@@ -60,8 +60,8 @@ fn cell_effect(list: TaskList, len: Slots, m: u8, table: &[u8], slot: u16, core:
 
 // The first faulty cell, in table order; `done` counts the work of the cells before it.
 fn scan_cells(list: TaskList, len: Slots, m: u8, table: &[u8], done: &mut [u16; 16384]) -> Verdict
-    requires { ⌜ Ready list m (len .0) (now table) × Counted (instanceFor list m (len .0)) (nth (now table)) 0 (now done) ⌝ }
-    ensures { λ r. ⌜ Scanned (instanceFor list m (len .0)) (nth (now (table .entry))) r (now (done .exit)) ⌝ }
+    requires { ⌜ Checkable list m (len .0) (now table) × Counted (instanceFor list m (len .0)) (nth (now table)) 0 (now done) ⌝ }
+    ensures { λ r. ⌜ CellsTold (instanceFor list m (len .0)) (nth (now (table .entry))) r (now (done .exit)) ⌝ }
 {
     let slots = len.0;
     let mut slot: u16 = 0;
@@ -88,7 +88,7 @@ fn scan_cells(list: TaskList, len: Slots, m: u8, table: &[u8], done: &mut [u16; 
 // The first faulty job, by task and job number.
 fn scan_jobs(list: TaskList, len: Slots, done: &[u16; 16384]) -> Verdict
     requires { ⌜ (list .n ≤ 16) × (len .0 ≤ 1024) × Periods (rows list) ⌝ }
-    ensures { λ r. ⌜ toldOf r ≡ checked (jobFaultIn (now (done .entry)) (len .0) (rows list)) ⌝ }
+    ensures { λ r. ⌜ checkedAs r ≡ checked (jobFaultIn (now (done .entry)) (len .0) (rows list)) ⌝ }
 {
     let n = list.n;
     for place in 0..n {
@@ -105,7 +105,7 @@ fn scan_jobs(list: TaskList, len: Slots, done: &[u16; 16384]) -> Verdict
 
 // Refusals 1 to 8 and 10, or the first fault. Cells past H × m are not looked at.
 pub fn check_table(list: TaskList, m: u8, table: &[u8]) -> Verdict
-    ensures { λ r. ⌜ toldOf r ≡ check m (rows list) (now (table .entry)) ⌝ }
+    ensures { λ r. ⌜ checkedAs r ≡ check m (rows list) (now (table .entry)) ⌝ }
 {
     let soundness = tasks::test_list(list, m);
     match soundness {

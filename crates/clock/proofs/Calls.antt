@@ -7,10 +7,10 @@ use Rattle.laws.proofs.Only.{Says, only}
 use Rattle.tasks.specs.declared.Slots.{Slots}
 use Rattle.clock.specs.declared.Next.{Next}
 use Rattle.clock.specs.declared.Shown.{Shown}
-use Rattle.clock.specs.Clock.{staysOf, nextOf, answerOf}
+use Rattle.clock.specs.Clock.{staysOf, nextOf, shownOf}
 use Rattle.clock.proofs.stays as stays
 use Rattle.clock.proofs.next_of as next-of
-use Rattle.clock.proofs.answer as answer
+use Rattle.clock.proofs.show as show
 
 -- ---- stays
 abbrev pub Stays : ℕ → Slots → Slots → ℕ → Next → Type 0
@@ -37,13 +37,13 @@ next-of-only last h position age m n tick r r′ = only
 
 -- ---- answer
 abbrev pub Answer : Next → ℕ → ℕ → List ℕ → ℕ → ℕ → ℕ → ℕ → Shown → Type 0
-Answer next m n offsets a b c d r = r ≡ answerOf next m n offsets (a ∷ b ∷ c ∷ d ∷ [])
+Answer next m n offsets a b c d r = r ≡ shownOf next m n offsets (a ∷ b ∷ c ∷ d ∷ [])
 
-answer-says : (κs next m n offsets a b c d next′ m′ n′ offsets′ a′ b′ c′ d′ r : _)
-    → Says (λ M 𝓤 H A mem run. answer.ensures-1 𝓤 H κs A mem run next m n offsets a b c d next′ m′ n′ offsets′ a′ b′ c′ d′ r)
+show-says : (κs next m n offsets a b c d next′ m′ n′ offsets′ a′ b′ c′ d′ r : _)
+    → Says (λ M 𝓤 H A mem run. show.ensures-1 𝓤 H κs A mem run next m n offsets a b c d next′ m′ n′ offsets′ a′ b′ c′ d′ r)
     (Answer next m n offsets a b c d r)
-answer-says κs next m n offsets a b c d next′ m′ n′ offsets′ a′ b′ c′ d′ r M 𝓤 H A mem run = refl
+show-says κs next m n offsets a b c d next′ m′ n′ offsets′ a′ b′ c′ d′ r M 𝓤 H A mem run = refl
 
-pub answer-only : (next : Next) (m n : ℕ) (offsets : List ℕ) (a b c d : ℕ) (r r′ : Shown)
+pub show-only : (next : Next) (m n : ℕ) (offsets : List ℕ) (a b c d : ℕ) (r r′ : Shown)
     → Answer next m n offsets a b c d r → Answer next m n offsets a b c d r′ → r ≡ r′
-answer-only next m n offsets a b c d r r′ = only
+show-only next m n offsets a b c d r r′ = only

@@ -16,7 +16,7 @@ use Rattle.tasks.proofs.SoundLaws.{within-is, is-within}
 use Rattle.tasks.proofs.AnswerLaws.{unless-yes, unless-no}
 use Rattle.clock.specs.declared.Next.{Next}
 use Rattle.clock.specs.declared.Shown.{Shown}
-use Rattle.clock.specs.Clock.{elapsedOf, ranges, stepRefusal, staysOf, nextOf, cellOf, answerOr, answerOf}
+use Rattle.clock.specs.Clock.{elapsedOf, ranges, stepRefusal, staysOf, nextOf, cellOf, answerOr, shownOf}
 
 -- the numbers of a record that is not spoilt
 pub record Unspoilt (h position age m n : ℕ) : Type 0 where
@@ -126,8 +126,8 @@ module _ (last h position age m n tick : ℕ) where
 
 module _ (x : Next) (m n : ℕ) (offsets : List ℕ) where
   -- the answer of a refused step
-  pub answer-refused : (cells : List ℕ) → x .verdict ≢ 0 → _≡_ {A = Shown} (record { verdict = x .verdict; cells = 0 ∷ 0 ∷ 0 ∷ 0 ∷ []; missed = 0 }) (answerOf x m n offsets cells)
-  unfolding answerOf
+  pub answer-refused : (cells : List ℕ) → x .verdict ≢ 0 → _≡_ {A = Shown} (record { verdict = x .verdict; cells = 0 ∷ 0 ∷ 0 ∷ 0 ∷ []; missed = 0 }) (shownOf x m n offsets cells)
+  unfolding shownOf
   answer-refused cells = go (x .verdict) _
     where
       go : (v : ℕ) (s : Shown) → v ≢ 0 → _≡_ {A = Shown} (record { verdict = v; cells = 0 ∷ 0 ∷ 0 ∷ 0 ∷ []; missed = 0 }) (answerOr v s)
@@ -137,6 +137,6 @@ module _ (x : Next) (m n : ℕ) (offsets : List ℕ) where
   -- the answer of any other
   pub answer-taken : (a b c d a' b' c' d' : ℕ) → x .verdict ≡ 0
       → a' ≡ cellOf m n (x .age .0) offsets 0 a → b' ≡ cellOf m n (x .age .0) offsets 1 b → c' ≡ cellOf m n (x .age .0) offsets 2 c → d' ≡ cellOf m n (x .age .0) offsets 3 d
-      → _≡_ {A = Shown} (record { verdict = x .verdict; cells = a' ∷ b' ∷ c' ∷ d' ∷ []; missed = x .missed }) (answerOf x m n offsets (a ∷ b ∷ c ∷ d ∷ []))
-  unfolding answerOf tabFrom
+      → _≡_ {A = Shown} (record { verdict = x .verdict; cells = a' ∷ b' ∷ c' ∷ d' ∷ []; missed = x .missed }) (shownOf x m n offsets (a ∷ b ∷ c ∷ d ∷ []))
+  unfolding shownOf tabFrom
   answer-taken a b c d a' b' c' d' z ea eb ec ed = rw (z, ea, eb, ec, ed)

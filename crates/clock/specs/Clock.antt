@@ -58,8 +58,8 @@ answerOr zero s = s
 answerOr (suc r) s = record { verdict = suc r; cells = 0 ∷ 0 ∷ 0 ∷ 0 ∷ []; missed = 0 }
 
 -- the answer to what a step works out, with the four cells of the table
-unfoldable pub answerOf : Next → ℕ → ℕ → List ℕ → List ℕ → Shown
-answerOf x m n offsets cells =
+unfoldable pub shownOf : Next → ℕ → ℕ → List ℕ → List ℕ → Shown
+shownOf x m n offsets cells =
     answerOr (x .verdict) (record { verdict = 0; cells = tab 4 (λ j. cellOf m n (x .age .0) offsets j (nth cells j)); missed = x .missed })
 
 -- ---- ticks

@@ -3,7 +3,7 @@ ghost use mathlib.Core.Path.{_≡_};
 ghost use Prim.Native.Nat.{_+_, _-_, _^_, _<_, min, pred};
 ghost use mathlib.Core.List.{[], _∷_};
 ghost use Rattle.laws.specs.Lists.{nth};
-ghost use Rattle.clock.specs.Clock.{elapsedOf, stepRefusal, staysOf, nextOf, shownCell, cellOf, answerOf};
+ghost use Rattle.clock.specs.Clock.{elapsedOf, stepRefusal, staysOf, nextOf, shownCell, cellOf, shownOf};
 use tasks::MAX_CORES;
 use tasks::MAX_SLOTS;
 use tasks::MAX_TASKS;
@@ -171,8 +171,8 @@ fn cell_of(m: u8, n: u8, age: Slots, offsets: [u16; 16], core: u8, cell: u8) -> 
 }
 
 // The answer to what a step works out, with the four cells of the table; a refused one shows four 0 cells.
-pub fn answer(next: Next, m: u8, n: u8, offsets: [u16; 16], a: u8, b: u8, c: u8, d: u8) -> Shown
-    ensures { λ r. ⌜ r ≡ answerOf next m n offsets (a ∷ b ∷ c ∷ d ∷ []) ⌝ }
+pub fn show(next: Next, m: u8, n: u8, offsets: [u16; 16], a: u8, b: u8, c: u8, d: u8) -> Shown
+    ensures { λ r. ⌜ r ≡ shownOf next m n offsets (a ∷ b ∷ c ∷ d ∷ []) ⌝ }
 {
     let verdict = next.verdict;
     if verdict != 0 {

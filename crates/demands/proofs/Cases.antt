@@ -14,8 +14,8 @@ use Rattle.tasks.specs.Instance.{instanceOf}
 use Rattle.table.specs.Table.{share, done, free}
 use Rattle.table.specs.Fault.{kindOf, cellKind, workKind, firstJob, fault, Checked, checked, inCell, inJob, check}
 use Rattle.rules.specs.Walk.{walk}
-use Rattle.rules.specs.Rules.{tests, permitted, settled, closed, evenRates, twin, idleTried, ruleA, ruleB, quickly}
-use Rattle.rules.specs.Search.{Searched, told, searchRefusal, search}
+use Rattle.rules.specs.Rules.{tests, permitted, settled, allSettled, evenRates, twin, idleTried, ruleA, ruleB, quickly}
+use Rattle.rules.specs.Search.{Searched, searchTold, searchRefusal, search}
 use Rattle.clock.specs.Clock.{stepRefusal, nextOf}
 use Rattle.player.specs.declared.Player.{Player}
 use Rattle.player.specs.Player.{cellsOf, stepped, afterStep, padded, recordOf, started, afterStart}
@@ -23,10 +23,10 @@ use Rattle.lines.specs.Frame.{sortOf, two as two-bytes, four}
 use Rattle.lines.specs.Lines.{isDigit, digitOf, pairs, bytesOf, before, lines, hexOf, digits, lineOf}
 use Rattle.lines.specs.Refusal.{lengthRefusal, frameRefusal, lineRefusal}
 use Rattle.lines.proofs.Text.{bytes}
-use Rattle.frames.specs.Read.{mayFollow, rightNumber, inPlace, taskOf, taken, placeRefusal, readLines, readWithin}
+use Rattle.frames.specs.Read.{mayFollow, rightNumber, inPlace, taskOf, takenFrame, placeRefusal, readLines, readWithin}
 use Rattle.frames.proofs.Cases.{example}
 use Rattle.answer.specs.Write.{verdictFrame, cellAt, slotFrame, slotLines, writeAnswer}
-use Rattle.planner.specs.Answer.{searchAnswer, answerOf, answerTo}
+use Rattle.planner.specs.Answer.{searchAnswer, answerToRead, answerTo}
 
 -- a task (O, C, D, T) with its rates
 task : ℕ → ℕ → ℕ → ℕ → List ℕ → Task
@@ -79,8 +79,8 @@ first = 4294967294
 -- what the definitions answer
 answer : Question → Reply
 unfolding reply blank steps first gate sum tabFrom over seek euclid gcdOf lcmOf lcmsOf within unless orNext ratesFit taskRefusal listRefusal tableLength refusal place highest instanceOf
-    share done free kindOf cellKind workKind firstJob fault check walk tests permitted settled closed evenRates twin idleTried ruleA ruleB quickly
-    told searchRefusal search stepRefusal nextOf cellsOf afterStep stepped padded recordOf started afterStart
+    share done free kindOf cellKind workKind firstJob fault check walk tests permitted settled allSettled evenRates twin idleTried ruleA ruleB quickly
+    searchTold searchRefusal search stepRefusal nextOf cellsOf afterStep stepped padded recordOf started afterStart
 answer (searching m ts e b room) = reply (search m ts e b (replicate room 77))
 answer (sounding m ts) = sounded (refusal m ts) (tableLength ts)
 answer (checking m ts t) = told-of (check m ts t)
@@ -161,7 +161,7 @@ cases = refl
 -- the worked example
 example-answered : answerTo (bytes example) ≡ bytes "05000000000C\n06000001030000\n06000102030000\n06000202030000\n07\n"
 unfolding gate sum tabFrom over seek euclid gcdOf lcmOf lcmsOf within unless orNext ratesFit taskRefusal listRefusal tableLength refusal place highest instanceOf
-    share done free walk tests permitted settled closed evenRates twin idleTried ruleA ruleB quickly told searchRefusal search
-    bytes example sortOf two-bytes four isDigit digitOf pairs bytesOf before lines mayFollow rightNumber inPlace taskOf taken lengthRefusal frameRefusal lineRefusal placeRefusal readLines readWithin
-    hexOf digits lineOf verdictFrame cellAt slotFrame slotLines writeAnswer searchAnswer answerOf
+    share done free walk tests permitted settled allSettled evenRates twin idleTried ruleA ruleB quickly searchTold searchRefusal search
+    bytes example sortOf two-bytes four isDigit digitOf pairs bytesOf before lines mayFollow rightNumber inPlace taskOf takenFrame lengthRefusal frameRefusal lineRefusal placeRefusal readLines readWithin
+    hexOf digits lineOf verdictFrame cellAt slotFrame slotLines writeAnswer searchAnswer answerToRead
 example-answered = refl

@@ -28,10 +28,10 @@ use Rattle.rules.specs.Search.{searchRefusal}
 use Rattle.rules.proofs.Told.{refused-told}
 use Rattle.rules.proofs.Demand2.{searches}
 use Rattle.search.specs.declared.Answer.{Answer}
-use Rattle.search.specs.Told.{toldOf}
+use Rattle.search.specs.Told.{searchedAs}
 use Rattle.checker.specs.declared.Verdict.{Verdict}
 use Rattle.checker.specs.declared.Verdict.the-variants.{Refused}
-use Rattle.checker.specs.Checks.{toldOf as checkedAs}
+use Rattle.checker.specs.Checks.{checkedAs}
 use Rattle.checker.proofs.TellLaws.{check-refused, check-short, check-long}
 use Rattle.checker.proofs.Calls.{told-only}
 use Rattle.checker.proofs.Demand2.{names, answer-tells}
@@ -48,7 +48,7 @@ use Rattle.lines.specs.Lines.{digits, lineOf}
 use Rattle.frames.specs.Read.{refused, problem, readProblem}
 use Rattle.frames.proofs.ProblemLaws.{read-refused}
 use Rattle.answer.specs.Write.{verdictFrame, slotLines, writeAnswer, Written}
-use Rattle.planner.specs.Answer.{searchAnswer, answerOf, answerTo}
+use Rattle.planner.specs.Answer.{searchAnswer, answerToRead, answerTo}
 use Rattle.planner.proofs.Calls.{Plan, Check, Start, PlanText}
 
 -- ---- statements
@@ -392,7 +392,7 @@ plan-refuses ts m e b t r t′ call = record {
   untouched = λ x h. ap (λ s. s .buffer) (told x h);
 }
   where
-    told : {k : ℕ} → k ≢ 0 → OfSearch m ts e t k → toldOf r t′ ≡ record { verdict = k; tries = 0; buffer = t }
+    told : {k : ℕ} → k ≢ 0 → OfSearch m ts e t k → searchedAs r t′ ≡ record { verdict = k; tries = 0; buffer = t }
     told x h = call ∙ refused-told m ts e b t _ (search-is m ts e t h) x
 
     -- a call that is not refused ends in 0, 13 or 14
@@ -501,11 +501,11 @@ unfolding gate
 written-not {text} {out} w l = (w .count ∙ rw (lt-leb 15376 (length out) l), w .holds ∙ rw (lt-leb 15376 (length out) l))
 
 pub text-refuses : (text out : List ℕ) (r : ℕ) (out′ : List ℕ) → PlanText text out r out′ → TextRefuses text out r out′
-unfolding answerOf searchAnswer
+unfolding answerToRead searchAnswer
 text-refuses text out r out′ call = record {
-  of-file = λ l k e. let n = read-refused text k e in let w = told k l (ap answerOf e ∙ refusal-written k 0 0 [] (λ z. omega (arith, n .0, z))) in (n, w .0, w .1);
+  of-file = λ l k e. let n = read-refused text k e in let w = told k l (ap answerToRead e ∙ refusal-written k 0 0 [] (λ z. omega (arith, n .0, z))) in (n, w .0, w .1);
   of-problem = λ l m ts e b h k x q.
-      let w = told k l (ap answerOf h ∙ ap (searchAnswer m ts) (refused-told m ts e b (replicate 4096 0) k (search-is m ts e (replicate 4096 0) q) x) ∙ refusal-written k (tableLength ts) m (replicate 4096 0) x) in
+      let w = told k l (ap answerToRead h ∙ ap (searchAnswer m ts) (refused-told m ts e b (replicate 4096 0) k (search-is m ts e (replicate 4096 0) q) x) ∙ refusal-written k (tableLength ts) m (replicate 4096 0) x) in
       (search-room m ts e (replicate 4096 0) (rw (length-replicate {A = ℕ} 4096 0) (omega arith)) q, w .0, w .1);
   no-room = written-not call;
 }

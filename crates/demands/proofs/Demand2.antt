@@ -17,10 +17,10 @@ use Rattle.table.proofs.TableLaws.{serves-none}
 use Rattle.rules.specs.Search.{Searched, walked, search}
 use Rattle.rules.proofs.Demand2.{Searches, searches}
 use Rattle.search.specs.declared.Answer.{Answer}
-use Rattle.search.specs.Told.{toldOf}
+use Rattle.search.specs.Told.{searchedAs}
 use Rattle.checker.specs.declared.Verdict.{Verdict}
 use Rattle.checker.specs.declared.Verdict.the-variants.{Valid as IsValid}
-use Rattle.checker.specs.Checks.{toldOf as checkedAs}
+use Rattle.checker.specs.Checks.{checkedAs}
 use Rattle.checker.proofs.Demand2.{Tells, answer-tells}
 use Rattle.clock.specs.declared.Shown.{Shown}
 use Rattle.clock.specs.Clock.{elapsedAt}
@@ -30,7 +30,7 @@ use Rattle.player.proofs.Demand2 as played
 use Rattle.player.proofs.Demand2.{Run, Keeps, Plays}
 use Rattle.frames.specs.Read.{problem, readProblem}
 use Rattle.answer.specs.Write.{writeAnswer}
-use Rattle.planner.specs.Answer.{searchAnswer, answerOf}
+use Rattle.planner.specs.Answer.{searchAnswer, answerToRead}
 use Rattle.planner.proofs.Calls.{Plan, Check, Start, PlanText}
 use Rattle.demands.proofs.Demand1.{own-cells, written-room}
 
@@ -43,7 +43,7 @@ pub record WritesAnswer (m : ℕ) (ts : List Task) (s : Searched) (out : List �
 -- ---- theorems
 -- a call of `plan` on a sound list, by either engine, with any limit, into a buffer that is long enough
 pub plans : (ts : List Task) (m e b : ℕ) (t : List ℕ) (r : Answer) (t′ : List ℕ) → Plan ts m e b t r t′ → IsSound m ts → e ≤ 1 → cells (ownInstance m ts) ≤ length t
-    → Searches (ownInstance m ts) (walked e (ownInstance m ts)) b t (toldOf r t′)
+    → Searches (ownInstance m ts) (walked e (ownInstance m ts)) b t (searchedAs r t′)
 plans ts m e b t r t′ call sound engine room = subst (Searches (ownInstance m ts) (walked e (ownInstance m ts)) b t) (sym call) (searches m ts e b t sound engine room)
 
 -- a call of `check`, for every list, every number of cores and every table
@@ -65,9 +65,9 @@ room m ts sound = rw (length-replicate {A = ℕ} 4096 0) (own-cells m ts sound)
 -- a call of `plan_text` with room for the longest answer writes what the search of the text's problem tells
 pub text-writes : (text out : List ℕ) (r : ℕ) (out′ : List ℕ) → PlanText text out r out′ → 15376 ≤ length out
     → (m : ℕ) (ts : List Task) (e b : ℕ) → readProblem text ≡ problem m ts e b → WritesAnswer m ts (search m ts e b (replicate 4096 0)) out r out′
-unfolding answerOf searchAnswer
+unfolding answerToRead searchAnswer
 text-writes text out r out′ call l m ts e b reads =
-    let w = written-room call l in record { count = w .0 ∙ ap (λ x. length (answerOf x)) reads; holds = w .1 ∙ ap (λ x. over (answerOf x) out) reads }
+    let w = written-room call l in record { count = w .0 ∙ ap (λ x. length (answerToRead x)) reads; holds = w .1 ∙ ap (λ x. over (answerToRead x) out) reads }
 
 -- where that has a sound list and engine 0 or 1, its verdict, tries and lines are as a search's must be
 pub text-plans : (text out : List ℕ) (r : ℕ) (out′ : List ℕ) → PlanText text out r out′ → 15376 ≤ length out

@@ -15,7 +15,7 @@ use Rattle.rules.proofs.Told.{own-regular}
 use Rattle.rules.proofs.Demand2.{walks}
 use Rattle.rules.proofs.Demand3.{Agree, without-limit, agree}
 use Rattle.search.specs.declared.Answer.{Answer}
-use Rattle.search.specs.Told.{toldOf}
+use Rattle.search.specs.Told.{searchedAs}
 use Rattle.frames.specs.Read.{problem, readProblem}
 use Rattle.planner.proofs.Calls.{Plan, PlanText}
 use Rattle.demands.proofs.Demand2.{WritesAnswer, room, text-writes}
@@ -36,7 +36,7 @@ unlimited m ts sound = record { right = walks (ownInstance m ts) (own-regular m 
 -- two calls of `plan` on a sound list with the same limit, the quick and the plain, into any two buffers that are long enough
 pub same : (ts : List Task) (m b : ℕ) (t t′ : List ℕ) (q p : Answer) (u v : List ℕ) → Plan ts m 1 b t q u → Plan ts m 0 b t′ p v
     → IsSound m ts → cells (ownInstance m ts) ≤ length t → cells (ownInstance m ts) ≤ length t′
-    → Agree (ownInstance m ts) (walked 1 (ownInstance m ts)) (walked 0 (ownInstance m ts)) b (toldOf q u) (toldOf p v)
+    → Agree (ownInstance m ts) (walked 1 (ownInstance m ts)) (walked 0 (ownInstance m ts)) b (searchedAs q u) (searchedAs p v)
 same ts m b t t′ q p u v quick plain sound room room′ = rw (quick, plain) (agree m ts b t t′ sound room room′)
 
 -- two calls of `plan_text` on texts that hold the same sound list and limit, for the quick engine and the plain

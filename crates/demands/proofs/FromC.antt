@@ -23,10 +23,10 @@ use Rattle.rules.proofs.Demand2.{searches}
 use Rattle.search.specs.declared.Answer.{Answer}
 use Rattle.checker.specs.declared.Verdict.{Verdict}
 use Rattle.checker.specs.declared.Verdict.the-variants.{Valid}
-use Rattle.checker.specs.Checks.{toldOf}
+use Rattle.checker.specs.Checks.{checkedAs}
 use Rattle.checker.specs.Faulty.{Wrong, unknown, closed, unrated, twice, WrongWork, too-little, too-much}
 use Rattle.checker.proofs.TellLaws.{check-refused}
-use Rattle.checker.proofs.Calls.{answerOf, told-of}
+use Rattle.checker.proofs.Calls.{verdictFrom, told-of}
 use Rattle.checker.proofs.Demand2.{tells}
 use Rattle.clock.specs.declared.Shown.{Shown}
 use Rattle.clock.specs.declared.Next.{Next}
@@ -36,7 +36,7 @@ use Rattle.player.specs.Player.{cellsOf, stored, afterStep, stepped, recordOf, 
 use Rattle.player.proofs.Calls.{Step}
 use Rattle.player.proofs.Demand2.{Run, Plays, Keeps}
 use Rattle.planner.proofs.Calls.{Plan, Check, Start}
-use Rattle.exports.specs.Packed.{packedAs, checkedAs, ToldAs}
+use Rattle.exports.specs.Packed.{packedAs, checkNumber, ShownNumber}
 use Rattle.exports.proofs.Calls.{XiphomeraSearch, XiphomeraCheck, XiphomeraStart, XiphomeraStep}
 use Rattle.demands.proofs.Demand1.{list-of, list-most, own-cells, search-of, search-none}
 use Rattle.demands.proofs.Demand2.{accepts, plays, keeps}
@@ -71,7 +71,7 @@ pub record Board (ts : List Task) (m : ℕ) (t : List ℕ) (p : Player) (tick : 
 
 -- ---- theorems
 -- the halves of an answer
-halves : (r : ℕ) (c : List ℕ) (s : Shown) → ToldAs r c s → s .missed < 2 ^ 32 → Reads r c s
+halves : (r : ℕ) (c : List ℕ) (s : Shown) → ShownNumber r c s → s .missed < 2 ^ 32 → Reads r c s
 halves r c s told l = record {
   verdict = ap (λ x. x / 2 ^ 32) (told .answer) ∙ digits-div (s .verdict) l;
   missed = ap (λ x. x % 2 ^ 32) (told .answer) ∙ digits-mod (s .verdict) l;
@@ -128,8 +128,8 @@ module _ (ts : List Task) (m : ℕ) (t : List ℕ) where
   ]
 
   -- the numbers of a check's answer
-  check-reads : (x : Checked) → check m ts t ≡ x → ReadsCheck (checkedAs x) x
-  unfolding checkedAs instanceOf
+  check-reads : (x : Checked) → check m ts t ≡ x → ReadsCheck (checkNumber x) x
+  unfolding checkNumber instanceOf
   check-reads (checked noFault) e = parts 0 0 0 0 (omega arith) (omega arith) (omega arith)
   check-reads (checked (inCell s j kind)) e =
       let h = tells m ts t .names-cell s j kind e in
@@ -151,17 +151,17 @@ module _ (ts : List Task) (m : ℕ) (t : List ℕ) where
       (tells m ts t .refuses-exact k .0 e))
 
   -- a check is a call of `check`
-  pub from-check : (r : ℕ) → XiphomeraCheck ts m t r → (v : Verdict) × Check ts m t v × ReadsCheck r (toldOf v)
+  pub from-check : (r : ℕ) → XiphomeraCheck ts m t r → (v : Verdict) × Check ts m t v × ReadsCheck r (checkedAs v)
   from-check r call =
       let v = told-of (check m ts t) in
-      (answerOf (check m ts t), v, subst₂ ReadsCheck (sym call) (sym v) (check-reads (check m ts t) refl))
+      (verdictFrom (check m ts t), v, subst₂ ReadsCheck (sym call) (sym v) (check-reads (check m ts t) refl))
 
 -- and answers 0 exactly if `check` finds the table valid
 pub from-valid : (ts : List Task) (m : ℕ) (t : List ℕ) (r : ℕ) → XiphomeraCheck ts m t r → (r ≡ 0) ↔ Check ts m t Valid
-unfolding checkedAs toldOf
-from-valid ts m t r call = (λ z. sym (none (check m ts t) (sym call ∙ z)), λ v. call ∙ ap checkedAs (sym v))
+unfolding checkNumber checkedAs
+from-valid ts m t r call = (λ z. sym (none (check m ts t) (sym call ∙ z)), λ v. call ∙ ap checkNumber (sym v))
   where
-    none : (x : Checked) → checkedAs x ≡ 0 → x ≡ checked noFault
+    none : (x : Checked) → checkNumber x ≡ 0 → x ≡ checked noFault
     none (checked noFault) z = refl
     none (checked (inCell s j k)) z = absurd (omega arith)
     none (checked (inJob i j k)) z = absurd (omega arith)

@@ -12,7 +12,7 @@ use Rattle.player.specs.declared.Player.{Player}
 use Rattle.clock.specs.declared.Shown.{Shown}
 use Rattle.player.specs.Player.{stepped, afterStep, started, afterStart}
 use Rattle.planner.proofs.Calls.{PlanText, plan-text-only}
-use Rattle.exports.specs.Packed.{SearchedAs, checkedAs, ToldAs}
+use Rattle.exports.specs.Packed.{SearchNumber, checkNumber, ShownNumber}
 use Rattle.exports.proofs.xiphomera_search as xiphomera-search
 use Rattle.exports.proofs.xiphomera_check as xiphomera-check
 use Rattle.exports.proofs.xiphomera_plan_text as xiphomera-plan-text
@@ -21,7 +21,7 @@ use Rattle.exports.proofs.xiphomera_step as xiphomera-step
 
 -- ---- xiphomera_search: it finds the buffer t, answers r and leaves the buffer t′
 abbrev pub XiphomeraSearch : List Task → ℕ → ℕ → ℕ → List ℕ → ℕ → List ℕ → Type 0
-XiphomeraSearch ts cores engine limit t r t′ = SearchedAs r t′ (search cores ts engine limit t)
+XiphomeraSearch ts cores engine limit t r t′ = SearchNumber r t′ (search cores ts engine limit t)
 
 xiphomera-search-says : (κs tasks cores engine limit table tasks′ cores′ engine′ limit′ table′ r : _)
     → Says (λ M 𝓤 H A mem run. xiphomera-search.ensures-1 𝓤 H κs A mem run tasks cores engine limit table tasks′ cores′ engine′ limit′ table′ r)
@@ -34,7 +34,7 @@ xiphomera-search-only ts cores engine limit t r r′ u u′ e e′ = (only (e .a
 
 -- ---- xiphomera_check
 abbrev pub XiphomeraCheck : List Task → ℕ → List ℕ → ℕ → Type 0
-XiphomeraCheck ts cores t r = r ≡ checkedAs (check cores ts t)
+XiphomeraCheck ts cores t r = r ≡ checkNumber (check cores ts t)
 
 xiphomera-check-says : (κs tasks cores table tasks′ cores′ table′ r : _)
     → Says (λ M 𝓤 H A mem run. xiphomera-check.ensures-1 𝓤 H κs A mem run tasks cores table tasks′ cores′ table′ r)
@@ -54,11 +54,11 @@ xiphomera-plan-text-only = plan-text-only
 
 -- ---- xiphomera_start: it finds the record p, answers r and leaves the four cells and the record p′
 -- what a player shows and leaves, told as a number, four cells and a record
-pub shown-only : {s : Shown} {p : Player} {r r′ : ℕ} {c c′ : List ℕ} {q q′ : Player} → ToldAs r c s × (q ≡ p) → ToldAs r′ c′ s × (q′ ≡ p) → (r ≡ r′) × (c ≡ c′) × (q ≡ q′)
+pub shown-only : {s : Shown} {p : Player} {r r′ : ℕ} {c c′ : List ℕ} {q q′ : Player} → ShownNumber r c s × (q ≡ p) → ShownNumber r′ c′ s × (q′ ≡ p) → (r ≡ r′) × (c ≡ c′) × (q ≡ q′)
 shown-only e e′ = (only (e .0 .answer) (e′ .0 .answer), only (e .0 .shown) (e′ .0 .shown), only (e .1) (e′ .1))
 
 abbrev pub XiphomeraStart : Player → List Task → ℕ → List ℕ → ℕ → ℕ → List ℕ → Player → Type 0
-XiphomeraStart p ts cores t tick r cells p′ = ToldAs r cells (started cores ts t tick) × (p′ ≡ afterStart cores ts t tick p)
+XiphomeraStart p ts cores t tick r cells p′ = ShownNumber r cells (started cores ts t tick) × (p′ ≡ afterStart cores ts t tick p)
 
 xiphomera-start-says : (κs player tasks cores table tick cells player′ tasks′ cores′ table′ tick′ cells′ r : _)
     → Says (λ M 𝓤 H A mem run. xiphomera-start.ensures-1 𝓤 H κs A mem run player tasks cores table tick cells player′ tasks′ cores′ table′ tick′ cells′ r)
@@ -71,7 +71,7 @@ xiphomera-start-only p ts cores t tick r r′ c c′ q q′ = shown-only
 
 -- ---- xiphomera_step: the same
 abbrev pub XiphomeraStep : Player → ℕ → ℕ → List ℕ → Player → Type 0
-XiphomeraStep p tick r cells p′ = ToldAs r cells (stepped p tick) × (p′ ≡ afterStep p tick)
+XiphomeraStep p tick r cells p′ = ShownNumber r cells (stepped p tick) × (p′ ≡ afterStep p tick)
 
 xiphomera-step-says : (κs player tick cells player′ tick′ cells′ r : _)
     → Says (λ M 𝓤 H A mem run. xiphomera-step.ensures-1 𝓤 H κs A mem run player tick cells player′ tick′ cells′ r)

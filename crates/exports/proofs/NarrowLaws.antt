@@ -17,14 +17,14 @@ use Rattle.table.specs.Table.{cells}
 use Rattle.table.specs.Fault.{Checked, refused, check}
 use Rattle.checker.proofs.TellLaws.{check-refused}
 use Rattle.rules.specs.Walk.{limited}
-use Rattle.rules.specs.Search.{Searched, walked, told, searchRefusal, toldUnless, search}
+use Rattle.rules.specs.Search.{Searched, walked, searchTold, searchRefusal, searchToldUnless, search}
 use Rattle.rules.proofs.Told.{refused-told}
 use Rattle.search.specs.declared.Answer.{Answer}
-use Rattle.search.specs.Told.{toldOf}
+use Rattle.search.specs.Told.{searchedAs}
 use Rattle.clock.specs.declared.Shown.{Shown}
 use Rattle.player.specs.declared.Player.{Player}
 use Rattle.player.specs.Player.{recordOf, firstShown, recordOr, started, afterStart}
-use Rattle.exports.specs.Packed.{narrowed, withVerdict, SearchedAs}
+use Rattle.exports.specs.Packed.{narrowed, withVerdict, SearchNumber}
 
 -- what is the same for all numbers above k is the same for the narrowed one
 narrow-same : {X : Type 0} (F : ℕ → X) (k : ℕ) → k < 255 → ((a b : ℕ) → k < a → k < b → F a ≡ F b) → (x : ℕ) → F (narrowed x) ≡ F x
@@ -64,7 +64,7 @@ module _ (ts : List Task) where
 
   -- what a search tells that is not refused
   abbrev goes : ℕ → ℕ → ℕ → List ℕ → Searched
-  goes m e b t = told (cells (ownInstance m ts)) t (limited b (walked e (ownInstance m ts)))
+  goes m e b t = searchTold (cells (ownInstance m ts)) t (limited b (walked e (ownInstance m ts)))
 
   search-refused : (m e b : ℕ) (t : List ℕ) → refusal m ts ≢ 0 → search m ts e b t ≡ record { verdict = refusal m ts; tries = 0; buffer = t }
   unfolding searchRefusal
@@ -89,12 +89,12 @@ module _ (ts : List Task) where
   -- ---- an engine that is not 0 or 1
   search-engine : (m b : ℕ) (t : List ℕ) {e e′ : ℕ} → 1 < e → 1 < e′ → search m ts e b t ≡ search m ts e′ b t
   unfolding search searchRefusal unless orNext
-  search-engine m b t {e} {e′} l l′ = ap (λ r. toldUnless r t (goes m e b t)) (nine l) ∙ go (refusal m ts) (goes m e b t) (goes m e′ b t) ∙ ap (λ r. toldUnless r t (goes m e′ b t)) (sym (nine l′))
+  search-engine m b t {e} {e′} l l′ = ap (λ r. searchToldUnless r t (goes m e b t)) (nine l) ∙ go (refusal m ts) (goes m e b t) (goes m e′ b t) ∙ ap (λ r. searchToldUnless r t (goes m e′ b t)) (sym (nine l′))
     where
       nine : {e : ℕ} → 1 < e → searchRefusal m ts e (length t) ≡ orNext (refusal m ts) 9
       nine {e} h = ap (λ b. orNext (refusal m ts) (unless b 9 (unless (leb (cells (ownInstance m ts)) (length t)) 10 0))) (lt-leb e 1 h)
 
-      go : (r : ℕ) (s s′ : Searched) → toldUnless (orNext r 9) t s ≡ toldUnless (orNext r 9) t s′
+      go : (r : ℕ) (s s′ : Searched) → searchToldUnless (orNext r 9) t s ≡ searchToldUnless (orNext r 9) t s′
       go zero s s′ = refl
       go (suc r) s s′ = rw (ne-eqb (suc r) 0 (λ e. omega (arith, e))) refl
 
@@ -119,7 +119,7 @@ module _ (ts : List Task) where
       (e .0 ∙ ap (λ a. started a ts t tick) is-m ∙ h .0, e .1 ∙ ap (λ a. afterStart a ts t tick p) is-m ∙ h .1)
 
   -- a search of the narrowed numbers, told as a number
-  pub search-told : {m e : ℕ} (cores engine b : ℕ) (t u : List ℕ) (r : Answer) {k : ℕ} → m ≡ narrowed cores → e ≡ narrowed engine → toldOf r u ≡ search m ts e b t → k ≡ withVerdict (r .verdict) (r .tries) → SearchedAs k u (search cores ts engine b t)
+  pub search-told : {m e : ℕ} (cores engine b : ℕ) (t u : List ℕ) (r : Answer) {k : ℕ} → m ≡ narrowed cores → e ≡ narrowed engine → searchedAs r u ≡ search m ts e b t → k ≡ withVerdict (r .verdict) (r .tries) → SearchNumber k u (search cores ts engine b t)
   search-told {m} {e} cores engine b t u r is-m is-e is is-k =
       let h = is ∙ ap (λ a. search a ts e b t) is-m ∙ ap (λ a. search (narrowed cores) ts a b t) is-e ∙ search-narrowed cores engine b t in
       record { answer = is-k ∙ ap (λ s. withVerdict (s .verdict) (s .tries)) h; left = ap (λ s. s .buffer) h }

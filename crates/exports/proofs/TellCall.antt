@@ -26,7 +26,7 @@ use denote.Triple.Statement.{Contract, Triple}
 use Rattle.clock.specs.declared.Shown.{Shown}
 use Rattle.clock.proofs.Shown as S
 use Rattle.clock.proofs.Shown.Laws as S′
-use Rattle.exports.specs.Packed.{ToldAs}
+use Rattle.exports.specs.Packed.{ShownNumber}
 use Rattle.exports.proofs.CallLaws.{ContractOf, calls-valued}
 use Rattle.exports.proofs.tell as tell
 use Rattle.exports.proofs.tell.Symbol.{name as #exports·tell}
@@ -50,9 +50,9 @@ module _ {M : Type 1} (𝓤 : URA M) (H : Heap 𝓤) (A : Atoms 𝓤) (at-mem : 
 
     pub calls-tell : {K : Type 0} {W : Given 𝓤 H A} {Γ : List (Item 𝓤)} {E : Env 𝓤 H} {C : Calls 𝓤 H} {Λ : Loops 𝓤 H} {p : Post 𝓤 H} {d : Place} {xs : List Operand} {rest : Body}
         → K → FmC 𝓤 H (W .laws) C → Triple 𝓤 (C #exports·tell) Tell → Is S.the-row s (S′.lowered s ∷ []) → Opds K W (raw (Tell .pre to-tell) ∷ Γ) E xs (Tell .args to-tell)
-        → ((r : ℕ) (cells : List ℕ) → ToldAs r cells s → r < 2 ^ 64 → Seq K W (‵ (u64 .own r (vint w64 r ∷ [])) ∷ ‵ (flft κ q) ∷ ‵ (fres (c .name) (Array u8 4 .coded .code cells)) ∷ Γ) (lands C Λ E d (vint w64 r) rest p))
+        → ((r : ℕ) (cells : List ℕ) → ShownNumber r cells s → r < 2 ^ 64 → Seq K W (‵ (u64 .own r (vint w64 r ∷ [])) ∷ ‵ (flft κ q) ∷ ‵ (fres (c .name) (Array u8 4 .coded .code cells)) ∷ Γ) (lands C Λ E d (vint w64 r) rest p))
         → Seq K W (‵ (flft κ q) ∷ ‵ OwnC ∷ Γ) (runs C Λ E (seq (call #exports·tell xs d) rest) p)
     calls-tell {W = W} t fm known is os k =
         use2 W (raw (Tell .pre to-tell)) (goes-tell W is) $
-        calls-valued 𝓤 H A tell.ended (tell.clauses 𝓤 H A at-mem run) (to-tell .0) tt (λ r ws. ToldAs r (ws .1 .0) s) (λ r ws. id⊢ 𝓤 _) t fm known (vint w64) (uint-tells w64) os (λ r ws a is-r.
+        calls-valued 𝓤 H A tell.ended (tell.clauses 𝓤 H A at-mem run) (to-tell .0) tt (λ r ws. ShownNumber r (ws .1 .0) s) (λ r ws. id⊢ 𝓤 _) t fm known (vint w64) (uint-tells w64) os (λ r ws a is-r.
         move t (2 ∷ []) $ fsplit t $ drop t $ fsplit t $ move t (1 ∷ []) $ drop t $ move t (2 ∷ []) $ use1 W (‵ (flft κ q) ⊛ ‵ ftrue) (id⊢ 𝓤 _) $ split t $ move t (1 ∷ []) $ drop t $ move t (2 ∷ 0 ∷ 1 ∷ []) $ k r (ws .1 .0) a (is-r .1))

@@ -18,7 +18,7 @@ abbrev pub withVerdict : ℕ → ℕ → ℕ
 withVerdict verdict number = verdict * 2 ^ 32 + number
 
 -- a search, told as one number and its buffer
-pub record SearchedAs (r : ℕ) (buffer : List ℕ) (s : Searched) : Type 0 where
+pub record SearchNumber (r : ℕ) (buffer : List ℕ) (s : Searched) : Type 0 where
   pub answer : r ≡ withVerdict (s .verdict) (s .tries)
   pub left : buffer ≡ s .buffer
 
@@ -27,13 +27,13 @@ abbrev pub packedAs : ℕ → ℕ → ℕ → ℕ → ℕ
 packedAs class a b c = class * 2 ^ 48 + a * 2 ^ 32 + b * 2 ^ 16 + c
 
 -- the checker's word as one number
-unfoldable pub checkedAs : Checked → ℕ
-checkedAs (checked noFault) = 0
-checkedAs (checked (inCell slot core kind)) = packedAs 1 slot core kind
-checkedAs (checked (inJob task job kind)) = packedAs 2 task job kind
-checkedAs (refused number) = packedAs 3 0 0 number
+unfoldable pub checkNumber : Checked → ℕ
+checkNumber (checked noFault) = 0
+checkNumber (checked (inCell slot core kind)) = packedAs 1 slot core kind
+checkNumber (checked (inJob task job kind)) = packedAs 2 task job kind
+checkNumber (refused number) = packedAs 3 0 0 number
 
 -- what a start or a step shows, told as one number and its four cells
-pub record ToldAs (r : ℕ) (cells : List ℕ) (s : Shown) : Type 0 where
+pub record ShownNumber (r : ℕ) (cells : List ℕ) (s : Shown) : Type 0 where
   pub answer : r ≡ withVerdict (s .verdict) (s .missed)
   pub shown : cells ≡ s .cells

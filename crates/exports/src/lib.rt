@@ -6,10 +6,10 @@ ghost use Rattle.rules.specs.Search.{search as searchOf};
 ghost use lib.ListN.{length};
 ghost use lib.Dec.{leb};
 ghost use Rattle.answer.specs.Write.{Written};
-ghost use Rattle.checker.specs.Checks.{toldOf as verdictOf};
+ghost use Rattle.checker.specs.Checks.{checkedAs};
 ghost use Rattle.player.specs.Player.{stepped, afterStep, started, afterStart};
 ghost use Rattle.planner.specs.Answer.{answerTo};
-ghost use Rattle.exports.specs.Packed.{narrowed, withVerdict, SearchedAs, packedAs, checkedAs, ToldAs};
+ghost use Rattle.exports.specs.Packed.{narrowed, withVerdict, SearchNumber, packedAs, checkNumber, ShownNumber};
 use checker::Verdict;
 use clock::Shown;
 use player::Player;
@@ -42,7 +42,7 @@ pub extern "C" fn xiphomera_search(
     limit: u32,
     table: &mut [u8],
 ) -> u64
-    ensures { λ r. ⌜ SearchedAs r (now (table .exit)) (searchOf cores (now (tasks .entry)) engine limit (now (table .entry))) ⌝ }
+    ensures { λ r. ⌜ SearchNumber r (now (table .exit)) (searchOf cores (now (tasks .entry)) engine limit (now (table .entry))) ⌝ }
 {
     let m = narrow(cores);
     let e = narrow(engine);
@@ -61,7 +61,7 @@ fn packed(class: u64, a: u16, b: u16, c: u8) -> u64
 // Tells what the checker answers: class * 2^48 + a * 2^32 + b * 2^16 + c.
 // Class 0 is valid; 1 a faulty cell: slot, core, kind; 2 a faulty job: task, job, kind; 3 a refusal: 0, 0, its number.
 fn tell_verdict(verdict: Verdict) -> u64
-    ensures { λ r. ⌜ r ≡ checkedAs (verdictOf verdict) ⌝ }
+    ensures { λ r. ⌜ r ≡ checkNumber (checkedAs verdict) ⌝ }
 {
     match verdict {
         Verdict::Valid => 0,
@@ -74,7 +74,7 @@ fn tell_verdict(verdict: Verdict) -> u64
 // The check of a table for the lent tasks: class * 2^48 + a * 2^32 + b * 2^16 + c.
 #[no_mangle]
 pub extern "C" fn xiphomera_check(tasks: &[Task], cores: u32, table: &[u8]) -> u64
-    ensures { λ r. ⌜ r ≡ checkedAs (checkOf cores (now (tasks .entry)) (now (table .entry))) ⌝ }
+    ensures { λ r. ⌜ r ≡ checkNumber (checkOf cores (now (tasks .entry)) (now (table .entry))) ⌝ }
 {
     let m = narrow(cores);
     let verdict = planner::check(tasks, m, table);
@@ -91,7 +91,7 @@ pub extern "C" fn xiphomera_plan_text(text: &[u8], out: &mut [u8]) -> usize
 
 // Tells what a start or a step shows: verdict * 2^32 + missed, and the four cells.
 fn tell(shown: Shown, cells: &mut [u8; 4]) -> u64
-    ensures { λ r. ⌜ ToldAs r (now (cells .exit)) shown ⌝ }
+    ensures { λ r. ⌜ ShownNumber r (now (cells .exit)) shown ⌝ }
 {
     let four = shown.cells;
     *cells = four;
@@ -108,7 +108,7 @@ pub extern "C" fn xiphomera_start(
     tick: u32,
     cells: &mut [u8; 4],
 ) -> u64
-    ensures { λ r. ⌜ ToldAs r (now (cells .exit)) (started cores (now (tasks .entry)) (now (table .entry)) tick) × (now (player .exit) ≡ afterStart cores (now (tasks .entry)) (now (table .entry)) tick (now (player .entry))) ⌝ }
+    ensures { λ r. ⌜ ShownNumber r (now (cells .exit)) (started cores (now (tasks .entry)) (now (table .entry)) tick) × (now (player .exit) ≡ afterStart cores (now (tasks .entry)) (now (table .entry)) tick (now (player .entry))) ⌝ }
 {
     let m = narrow(cores);
     let shown = planner::start(player, tasks, m, table, tick);
@@ -118,7 +118,7 @@ pub extern "C" fn xiphomera_start(
 // A step of the player's record where it stands: verdict * 2^32 + missed, and four cells, one a core.
 #[no_mangle]
 pub extern "C" fn xiphomera_step(player: &mut Player, tick: u32, cells: &mut [u8; 4]) -> u64
-    ensures { λ r. ⌜ ToldAs r (now (cells .exit)) (stepped (now (player .entry)) tick) × (now (player .exit) ≡ afterStep (now (player .entry)) tick) ⌝ }
+    ensures { λ r. ⌜ ShownNumber r (now (cells .exit)) (stepped (now (player .entry)) tick) × (now (player .exit) ≡ afterStep (now (player .entry)) tick) ⌝ }
 {
     let shown = player::step(player, tick);
     tell(shown, cells)

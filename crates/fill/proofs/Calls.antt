@@ -1,4 +1,4 @@
--- What a call of `fill_board` ensures, as its contract says, and that it leaves one board.
+-- What a call of `fill_grid` ensures, as its contract says, and that it leaves one grid.
 -- Assumes nothing.
 use Prim.Native.Nat.{ℕ}
 use mathlib.Core.Path.{_≡_, refl}
@@ -7,18 +7,18 @@ use denote.Ref.{now}
 use Rattle.laws.proofs.Only.{Says, only}
 use Rattle.tasks.specs.declared.Slots.{Slots}
 use Rattle.tasks.specs.declared.TaskList.{TaskList}
-use Rattle.fill.specs.Board.{boardOf}
-use Rattle.fill.proofs.fill_board as fill-board
+use Rattle.fill.specs.Grid.{gridOf}
+use Rattle.fill.proofs.fill_grid as fill-grid
 
--- ---- fill_board: it finds the board b and leaves the board b′
-abbrev pub FillBoard : List ℕ → TaskList → ℕ → ℕ → Slots → List ℕ → Type 0
-FillBoard b list m e len b′ = b′ ≡ boardOf list m e (len .0) b
+-- ---- fill_grid: it finds the grid b and leaves the grid b′
+abbrev pub FillGrid : List ℕ → TaskList → ℕ → ℕ → Slots → List ℕ → Type 0
+FillGrid b list m e len b′ = b′ ≡ gridOf list m e (len .0) b
 
-fill-board-says : (κs board list m engine len board′ list′ m′ engine′ len′ r : _)
-    → Says (λ M 𝓤 H A mem run. fill-board.ensures-1 𝓤 H κs A mem run board list m engine len board′ list′ m′ engine′ len′ r)
-    (FillBoard (now (board′ .entry)) list m engine len (now (board′ .exit)))
-fill-board-says κs board list m engine len board′ list′ m′ engine′ len′ r M 𝓤 H A mem run = refl
+fill-grid-says : (κs grid list m engine len grid′ list′ m′ engine′ len′ r : _)
+    → Says (λ M 𝓤 H A mem run. fill-grid.ensures-1 𝓤 H κs A mem run grid list m engine len grid′ list′ m′ engine′ len′ r)
+    (FillGrid (now (grid′ .entry)) list m engine len (now (grid′ .exit)))
+fill-grid-says κs grid list m engine len grid′ list′ m′ engine′ len′ r M 𝓤 H A mem run = refl
 
-pub fill-board-only : (b : List ℕ) (list : TaskList) (m e : ℕ) (len : Slots) (u u′ : List ℕ)
-    → FillBoard b list m e len u → FillBoard b list m e len u′ → u ≡ u′
-fill-board-only b list m e len u u′ = only
+pub fill-grid-only : (b : List ℕ) (list : TaskList) (m e : ℕ) (len : Slots) (u u′ : List ℕ)
+    → FillGrid b list m e len u → FillGrid b list m e len u′ → u ≡ u′
+fill-grid-only b list m e len u u′ = only

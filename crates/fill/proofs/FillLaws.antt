@@ -1,4 +1,4 @@
--- What stands on the board, as the code finds it: entries of the grid, marks of rules A and B, and the loops that store them.
+-- What stands on the grid, as the code finds it: entries of the entries, marks of rules A and B, and the loops that store them.
 -- Assumes nothing.
 use Prim.Native.Nat.{ℕ, zero, suc, _+_, _*_, _-_, _/_, _%_, _≤_, _<_}
 use mathlib.Core.Path.{_≡_, refl, sym, ap, _∙_}
@@ -21,11 +21,11 @@ use Rattle.tasks.specs.Task.{taskAt}
 use Rattle.tasks.specs.Window.{lastSlot}
 use Rattle.windows.specs.declared.Window.{Window}
 use Rattle.windows.specs.declared.Window.the-variants.{Open, Closed}
-use Rattle.windows.specs.Answer.{toldOf, inSlot}
+use Rattle.windows.specs.Answer.{inSlotAs, inSlot}
 use Rattle.tasks.proofs.WindowLaws.{pos-T, job-lt}
 use Rattle.windows.proofs.AnswerLaws.{told-open, told-closed}
-use Rattle.board.specs.Ready.{isQuick}
-use Rattle.fill.specs.Board.{Fit, entryFor, gridEntry, evenPair, rowEven, coresTwin, quickMark, fitMark, evens, twins, tasks, cores, fits, marks, ruleTest, sizeAt, markAt, endMark, unmarkedOf, boardOf}
+use Rattle.grid.specs.GridFor.{isQuick}
+use Rattle.fill.specs.Grid.{Fit, entryFor, entryAt, evenPair, rowEven, coresTwin, quickMark, fitMark, evens, twins, tasks, cores, fits, marks, ruleTest, sizeAt, markAt, endMark, unmarkedOf, gridOf}
 
 -- ---- places stored one after the other
 module _ (s : List ℕ) (g : ℕ → ℕ) where
@@ -50,13 +50,13 @@ module _ (n : ℕ) (f : ℕ → Bool) where
 -- ---- the entry of a task in slot t of L, from the window w that is told
 module _ (L t : ℕ) (τ : Task) where
   -- the job that is told is one of the table's
-  pub told-job : (k : ℕ) (w : Window) → Fit L τ → toldOf w ≡ inSlot L τ t → w ≡ Open k → (k < L / τ .period .0) × (k < 1024)
+  pub told-job : (k : ℕ) (w : Window) → Fit L τ → inSlotAs w ≡ inSlot L τ t → w ≡ Open k → (k < L / τ .period .0) × (k < 1024)
   told-job k w fit e f =
       let l : k < L / τ .period .0 = omega (arith, told-open L t τ w e k f .1, job-lt (fit .cyclic) (τ .offset .0) t) in
       (l, omega (arith, fit .few-slots, fit .cyclic .cycle, mul-le-mul-left (L / τ .period .0) (pos-T (fit .cyclic))))
 
   -- its highest-numbered slot
-  pub entry-end : (v k last : ℕ) (w : Window) → toldOf w ≡ inSlot L τ t → w ≡ Open k → last ≡ lastSlot L (τ .offset .0) (τ .deadline .0) (τ .period .0) k → last ≡ t
+  pub entry-end : (v k last : ℕ) (w : Window) → inSlotAs w ≡ inSlot L τ t → w ≡ Open k → last ≡ lastSlot L (τ .offset .0) (τ .deadline .0) (τ .period .0) k → last ≡ t
       → 2 * (k * 16 + v) + 1 ≡ entryFor L τ (suc v) t
   unfolding entryFor gate
   entry-end v k last w e f el here =
@@ -64,7 +64,7 @@ module _ (L t : ℕ) (τ : Task) where
       rw (told .0, ← told .1, ← el, eq-eqb last t here)
 
   -- an earlier one
-  pub entry-early : (v k last : ℕ) (w : Window) → toldOf w ≡ inSlot L τ t → w ≡ Open k → last ≡ lastSlot L (τ .offset .0) (τ .deadline .0) (τ .period .0) k → last ≢ t
+  pub entry-early : (v k last : ℕ) (w : Window) → inSlotAs w ≡ inSlot L τ t → w ≡ Open k → last ≡ lastSlot L (τ .offset .0) (τ .deadline .0) (τ .period .0) k → last ≢ t
       → 2 * (k * 16 + v) ≡ entryFor L τ (suc v) t
   unfolding entryFor gate
   entry-early v k last w e f el other =
@@ -72,25 +72,25 @@ module _ (L t : ℕ) (τ : Task) where
       rw (told .0, ← told .1, ← el, ne-eqb last t other) (omega arith)
 
   -- no job's
-  pub entry-closed : (v : ℕ) (w : Window) → toldOf w ≡ inSlot L τ t → w ≡ Closed → 32768 ≡ entryFor L τ (suc v) t
+  pub entry-closed : (v : ℕ) (w : Window) → inSlotAs w ≡ inSlot L τ t → w ≡ Closed → 32768 ≡ entryFor L τ (suc v) t
   unfolding entryFor
   entry-closed v w e f = rw (told-closed L t τ w e f)
 
--- ---- the grid
+-- ---- the entries
 -- a task that was read
 pub read-fits : (L k : ℕ) (list : TaskList) (τ : Task) → τ ≡ taskAt list k → Fit L (taskAt list k) → Fit L τ
 read-fits L k list τ e fit = rw e fit
 
 module _ (list : TaskList) (L x : ℕ) where
   -- the place of a task
-  pub grid-task : (r : ℕ) (τ : Task) → x % 16 < list .n → τ ≡ taskAt list (x % 16) → r ≡ entryFor L τ (suc (x % 16)) (x / 16) → r ≡ gridEntry list L x
-  unfolding gridEntry
-  grid-task r τ l t e = e ∙ ap (λ τ. entryFor L τ (suc (x % 16)) (x / 16)) t ∙ rw (lt-ltb (x % 16) (list .n) l)
+  pub entries-task : (r : ℕ) (τ : Task) → x % 16 < list .n → τ ≡ taskAt list (x % 16) → r ≡ entryFor L τ (suc (x % 16)) (x / 16) → r ≡ entryAt list L x
+  unfolding entryAt
+  entries-task r τ l t e = e ∙ ap (λ τ. entryFor L τ (suc (x % 16)) (x / 16)) t ∙ rw (lt-ltb (x % 16) (list .n) l)
 
   -- a place behind the last
-  pub grid-none : list .n ≤ x % 16 → 0 ≡ gridEntry list L x
-  unfolding gridEntry
-  grid-none l = rw (le-ltb (x % 16) (list .n) l)
+  pub entries-none : list .n ≤ x % 16 → 0 ≡ entryAt list L x
+  unfolding entryAt
+  entries-none l = rw (le-ltb (x % 16) (list .n) l)
 
 -- ---- two rates
 module _ (x y : ℕ) where
@@ -183,25 +183,25 @@ module _ (n : ℕ) (rates : List ℕ) (m e L x : ℕ) where
   unfolding markAt
   at-fit k = rw (le-ltb x evens (omega arith), le-ltb x tasks (omega arith), le-ltb x fits k)
 
--- ---- the board
-pub board-filled : (list : TaskList) (m e L : ℕ) (s grid marked ends : List ℕ) → grid ≡ filled s 0 (L * 16) (gridEntry list L)
-    → marked ≡ filled grid 16384 marks (markAt (list .n) (list .rates) m e L) → ends ≡ filled marked 16739 L (endMark marked (list .n)) → ends ≡ boardOf list m e L s
-unfolding boardOf unmarkedOf
-board-filled list m e L s grid marked ends eg em ee = rw (ee, em, eg)
+-- ---- the grid
+pub grid-filled : (list : TaskList) (m e L : ℕ) (s entries marked ends : List ℕ) → entries ≡ filled s 0 (L * 16) (entryAt list L)
+    → marked ≡ filled entries 16384 marks (markAt (list .n) (list .rates) m e L) → ends ≡ filled marked 16739 L (endMark marked (list .n)) → ends ≡ gridOf list m e L s
+unfolding gridOf unmarkedOf
+grid-filled list m e L s entries marked ends eg em ee = rw (ee, em, eg)
 
 -- ---- the slots in which jobs end
-module _ (board : List ℕ) (n t : ℕ) where
+module _ (grid : List ℕ) (n t : ℕ) where
   -- v is the first
-  pub first-ends : (v : ℕ) → v < n → ((k : ℕ) → k < v → nth board (t * 16 + k) % 2 ≡ 0) → nth board (t * 16 + v) % 2 ≢ 0 → v ≡ endMark board n t
+  pub first-ends : (v : ℕ) → v < n → ((k : ℕ) → k < v → nth grid (t * 16 + k) % 2 ≡ 0) → nth grid (t * 16 + v) % 2 ≢ 0 → v ≡ endMark grid n t
   unfolding endMark
   first-ends v l none x = sym (seek-is n v _ l none x)
 
   -- none does
-  pub none-ends : ((v : ℕ) → v < n → nth board (t * 16 + v) % 2 ≡ 0) → n ≡ endMark board n t
+  pub none-ends : ((v : ℕ) → v < n → nth grid (t * 16 + v) % 2 ≡ 0) → n ≡ endMark grid n t
   unfolding endMark
   none-ends none = sym (seek-none n _ none)
 
 -- the marks filled in before change none
-pub ends-same : (board now : List ℕ) (n k t r : ℕ) → n ≤ 16 → t < 1024 → now ≡ filled board 16739 k (endMark board n) → r ≡ endMark now n t → r ≡ endMark board n t
+pub ends-same : (grid now : List ℕ) (n k t r : ℕ) → n ≤ 16 → t < 1024 → now ≡ filled grid 16739 k (endMark grid n) → r ≡ endMark now n t → r ≡ endMark grid n t
 unfolding endMark
-ends-same board now n k t r ln lt e h = h ∙ seek-same n _ _ (λ v l. ap (λ x. x % 2) (ap (λ b. nth b (t * 16 + v)) e ∙ filled-before board 16739 k (endMark board n) (t * 16 + v) (omega arith)))
+ends-same grid now n k t r ln lt e h = h ∙ seek-same n _ _ (λ v l. ap (λ x. x % 2) (ap (λ b. nth b (t * 16 + v)) e ∙ filled-before grid 16739 k (endMark grid n) (t * 16 + v) (omega arith)))

@@ -16,7 +16,7 @@ use Rattle.laws.proofs.SumLaws.{lt-or-ge}
 use Rattle.tasks.specs.declared.Work.{Work}
 use Rattle.tasks.specs.Task.{workIn}
 use Rattle.sets.specs.Sets.{has}
-use Rattle.fill.specs.Board.{fitBit, fitMark}
+use Rattle.fill.specs.Grid.{fitBit, fitMark}
 
 -- ---- one bit
 module _ (rate w : ℕ) where

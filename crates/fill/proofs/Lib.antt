@@ -1,4 +1,4 @@
 pub mod FillLaws
 pub mod FitLaws
-pub mod BoardLaws
+pub mod GridLaws
 pub mod Calls

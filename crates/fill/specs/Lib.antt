@@ -1,1 +1,1 @@
-pub mod Board
+pub mod Grid

@@ -1,16 +1,16 @@
-// The board of a sound list: the grid of entries, the marks behind it, and the marks of the slots in which jobs end.
+// The grid of a sound list: the grid of entries, the marks behind it, and the marks of the slots in which jobs end.
 ghost use mathlib.Core.Path.{_≡_};
 ghost use Prim.Native.Nat.{ℕ, suc, _*_, _≤_, _<_, _/_, _%_};
 ghost use Rattle.laws.specs.Lists.{filled};
 ghost use Rattle.tasks.specs.Task.{taskAt};
-ghost use Rattle.fill.specs.Board.{Fit, entryFor, gridEntry, evenPair, pairEven, rowEven, coresTwin, quickMark, fitBit, fitMark, ruleTest, sizeAt, markAt, endMark, boardOf};
-use board::CORES;
-use board::ENDS;
-use board::EVEN;
-use board::FITS;
-use board::RATES;
-use board::TASKS;
-use board::TWINS;
+ghost use Rattle.fill.specs.Grid.{Fit, entryFor, entryAt, evenPair, pairEven, rowEven, coresTwin, quickMark, fitBit, fitMark, ruleTest, sizeAt, markAt, endMark, gridOf};
+use grid::CORES_AT;
+use grid::ENDS_AT;
+use grid::EVEN_AT;
+use grid::FITS_AT;
+use grid::RATES_AT;
+use grid::TASKS_AT;
+use grid::TWINS_AT;
 use tasks::Slots;
 use tasks::Task;
 use tasks::TaskList;
@@ -21,20 +21,20 @@ use windows::Window;
 const CLOSED: u16 = 32768;
 
 // Where the parts between the grid and the marks of ends begin, counted from the first of them, the rates.
-const EVEN_MARKS: usize = EVEN - RATES;
+const EVEN_MARKS: usize = EVEN_AT - RATES_AT;
 
-const TWIN_MARKS: usize = TWINS - RATES;
+const TWIN_MARKS: usize = TWINS_AT - RATES_AT;
 
-const TASK_COUNT: usize = TASKS - RATES;
+const TASK_COUNT: usize = TASKS_AT - RATES_AT;
 
-const CORE_COUNT: usize = CORES - RATES;
+const CORE_COUNT: usize = CORES_AT - RATES_AT;
 
-const FIT_MARKS: usize = FITS - RATES;
+const FIT_MARKS: usize = FITS_AT - RATES_AT;
 
 // And how many places they have.
-const MARKS: usize = ENDS - RATES;
+const MARKS: usize = ENDS_AT - RATES_AT;
 
-// The board's entry for the task at place v in a slot.
+// The grid's entry for the task at place v in a slot.
 fn entry(len: Slots, t: Task, v: u16, slot: Slots) -> u16
     requires { ⌜ Fit (len .0) t × (v < 16) × (slot .0 < len .0) ⌝ }
     ensures { λ r. ⌜ r ≡ entryFor (len .0) t (suc v) (slot .0) ⌝ }
@@ -55,9 +55,9 @@ fn entry(len: Slots, t: Task, v: u16, slot: Slots) -> u16
 }
 
 // What stands at place x of the grid: sixteen tasks a slot.
-fn grid_entry(list: TaskList, len: Slots, x: usize) -> u16
+fn entry_at(list: TaskList, len: Slots, x: usize) -> u16
     requires { ⌜ (list .n ≤ 16) × ((k : ℕ) → k < list .n → Fit (len .0) (taskAt list k)) × (x < len .0 * 16) ⌝ }
-    ensures { λ r. ⌜ r ≡ gridEntry list (len .0) x ⌝ }
+    ensures { λ r. ⌜ r ≡ entryAt list (len .0) x ⌝ }
 {
     let v = x % 16;
     if v < list.n as usize {
@@ -73,20 +73,20 @@ fn grid_entry(list: TaskList, len: Slots, x: usize) -> u16
 }
 
 // The grid, slot by slot.
-fn fill_grid(board: &mut [u16; 17763], list: TaskList, len: Slots)
+fn fill_entries(grid: &mut [u16; 17763], list: TaskList, len: Slots)
     requires { ⌜ (list .n ≤ 16) × (len .0 ≤ 1024) × ((k : ℕ) → k < list .n → Fit (len .0) (taskAt list k)) ⌝ }
-    ensures { λ _. ⌜ now (board .exit) ≡ filled (now (board .entry)) 0 (len .0 * 16) (gridEntry list (len .0)) ⌝ }
+    ensures { λ _. ⌜ now (grid .exit) ≡ filled (now (grid .entry)) 0 (len .0 * 16) (entryAt list (len .0)) ⌝ }
 {
     let n = len.0 as usize * 16;
     let mut x: usize = 0;
     while x < n {
-        board[x] = grid_entry(list, len, x);
+        grid[x] = entry_at(list, len, x);
         x += 1;
     }
 }
 
-// A byte as a number of the board.
-fn wide(x: u8) -> u16
+// A byte as a number of the grid.
+fn rate_entry(x: u8) -> u16
     ensures { λ r. ⌜ (r ≡ x) × (r ≤ 255) ⌝ }
 {
     x as u16
@@ -208,7 +208,7 @@ fn mark(n: u8, rates: [u8; 64], m: u8, engine: u8, slots: u16, x: usize) -> u16
     ensures { λ r. ⌜ r ≡ markAt n rates m engine slots x ⌝ }
 {
     if x < EVEN_MARKS {
-        return wide(rates[x]);
+        return rate_entry(rates[x]);
     }
     if x < TASK_COUNT {
         return quick_mark(engine, rule_test(n, rates, x));
@@ -220,25 +220,25 @@ fn mark(n: u8, rates: [u8; 64], m: u8, engine: u8, slots: u16, x: usize) -> u16
 }
 
 // The marks, behind the grid.
-fn fill_marks(board: &mut [u16; 17763], n: u8, rates: [u8; 64], m: u8, engine: u8, slots: u16)
+fn fill_marks(grid: &mut [u16; 17763], n: u8, rates: [u8; 64], m: u8, engine: u8, slots: u16)
     requires { ⌜ n ≤ 16 ⌝ }
-    ensures { λ _. ⌜ now (board .exit) ≡ filled (now (board .entry)) 16384 355 (markAt n rates m engine slots) ⌝ }
+    ensures { λ _. ⌜ now (grid .exit) ≡ filled (now (grid .entry)) 16384 355 (markAt n rates m engine slots) ⌝ }
 {
     let mut x: usize = 0;
     while x < MARKS {
-        board[RATES + x] = mark(n, rates, m, engine, slots, x);
+        grid[RATES_AT + x] = mark(n, rates, m, engine, slots, x);
         x += 1;
     }
 }
 
 // The first task whose job has its highest-numbered slot in this slot of the grid, n if there is none.
-fn end_mark(board: &[u16; 17763], n: usize, slot: usize) -> u16
+fn end_mark(grid: &[u16; 17763], n: usize, slot: usize) -> u16
     requires { ⌜ (n ≤ 16) × (slot < 1024) ⌝ }
-    ensures { λ r. ⌜ r ≡ endMark (now (board .entry)) n slot ⌝ }
+    ensures { λ r. ⌜ r ≡ endMark (now (grid .entry)) n slot ⌝ }
 {
     let mut v: usize = 0;
     while v < n {
-        if board[slot * 16 + v] % 2 != 0 {
+        if grid[slot * 16 + v] % 2 != 0 {
             return v as u16;
         }
         v += 1;
@@ -247,25 +247,25 @@ fn end_mark(board: &[u16; 17763], n: usize, slot: usize) -> u16
 }
 
 // The marks of the slots in which jobs end, by the grid.
-fn fill_ends(board: &mut [u16; 17763], n: usize, slots: usize)
+fn fill_ends(grid: &mut [u16; 17763], n: usize, slots: usize)
     requires { ⌜ (n ≤ 16) × (slots ≤ 1024) ⌝ }
-    ensures { λ _. ⌜ now (board .exit) ≡ filled (now (board .entry)) 16739 slots (endMark (now (board .entry)) n) ⌝ }
+    ensures { λ _. ⌜ now (grid .exit) ≡ filled (now (grid .entry)) 16739 slots (endMark (now (grid .entry)) n) ⌝ }
 {
     let mut slot: usize = 0;
     while slot < slots {
-        let mark = end_mark(board, n, slot);
-        board[ENDS + slot] = mark;
+        let mark = end_mark(grid, n, slot);
+        grid[ENDS_AT + slot] = mark;
         slot += 1;
     }
 }
 
-// The board of a sound list.
-pub fn fill_board(board: &mut [u16; 17763], list: TaskList, m: u8, engine: u8, len: Slots)
+// The grid of a sound list.
+pub fn fill_grid(grid: &mut [u16; 17763], list: TaskList, m: u8, engine: u8, len: Slots)
     requires { ⌜ (list .n ≤ 16) × (len .0 ≤ 1024) × ((k : ℕ) → k < list .n → Fit (len .0) (taskAt list k)) ⌝ }
-    ensures { λ _. ⌜ now (board .exit) ≡ boardOf list m engine (len .0) (now (board .entry)) ⌝ }
+    ensures { λ _. ⌜ now (grid .exit) ≡ gridOf list m engine (len .0) (now (grid .entry)) ⌝ }
 {
-    fill_grid(board, list, len);
+    fill_entries(grid, list, len);
     let rates = list.rates;
-    fill_marks(board, list.n, rates, m, engine, len.0);
-    fill_ends(board, list.n as usize, len.0 as usize);
+    fill_marks(grid, list.n, rates, m, engine, len.0);
+    fill_ends(grid, list.n as usize, len.0 as usize);
 }

@@ -6,12 +6,12 @@ use mathlib.Core.List.{List}
 use denote.Ref.{now}
 use Rattle.laws.proofs.Only.{Says, only}
 use Rattle.frames.specs.declared.Problem.{Problem}
-use Rattle.frames.specs.Read.{told, readProblem}
+use Rattle.frames.specs.Read.{problemOf, readProblem}
 use Rattle.frames.proofs.read_problem as read-problem
 
 -- ---- read_problem
 abbrev pub ReadProblem : List ℕ → Problem → Type 0
-ReadProblem text r = r ≡ told (readProblem text)
+ReadProblem text r = r ≡ problemOf (readProblem text)
 
 read-problem-says : (κs text text′ r : _) → Says (λ M 𝓤 H A mem run. read-problem.ensures-1 𝓤 H κs A mem run text text′ r) (ReadProblem (now (text′ .entry)) r)
 read-problem-says κs text text′ r M 𝓤 H A mem run = refl

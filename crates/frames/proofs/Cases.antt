@@ -11,12 +11,12 @@ use Rattle.tasks.specs.Refusal.{within, unless}
 use Rattle.lines.specs.Frame.{sortOf, two, four}
 use Rattle.lines.specs.Lines.{isDigit, digitOf, pairs, bytesOf, before, lines}
 use Rattle.lines.specs.Refusal.{lengthRefusal, frameRefusal, lineRefusal}
-use Rattle.frames.specs.Read.{Read, refused, problem, mayFollow, rightNumber, inPlace, taskOf, taken, placeRefusal, readLines, readWithin, readProblem}
+use Rattle.frames.specs.Read.{Read, refused, problem, mayFollow, rightNumber, inPlace, taskOf, takenFrame, placeRefusal, readLines, readWithin, readProblem}
 use Rattle.lines.proofs.Text.{bytes}
 
 -- what a text is read as
 reading : List ℕ → Read
-unfolding tabFrom bytes within unless sortOf two four isDigit digitOf pairs bytesOf before lines mayFollow rightNumber inPlace taskOf taken lengthRefusal frameRefusal lineRefusal placeRefusal readLines readWithin
+unfolding tabFrom bytes within unless sortOf two four isDigit digitOf pairs bytesOf before lines mayFollow rightNumber inPlace taskOf takenFrame lengthRefusal frameRefusal lineRefusal placeRefusal readLines readWithin
 reading text = readProblem text
 
 -- a task of work C, due and anew every three slots, of rate 1 on two cores

@@ -17,7 +17,7 @@ use Rattle.tasks.specs.Refusal.{unless}
 use Rattle.lines.specs.Lines.{Line, bytesOf, lines}
 use Rattle.lines.specs.Refusal.{lengthRefusal, frameRefusal, lineRefusal}
 use Rattle.lines.proofs.RefusalLaws.{unless-none}
-use Rattle.frames.specs.Read.{Read, refused, problem, State, said, start, inPlace, taskOf, taken, placeRefusal, orRead, readLines, readWithin, readProblem}
+use Rattle.frames.specs.Read.{Read, refused, problem, Reading, said, start, inPlace, taskOf, takenFrame, placeRefusal, orRead, readLines, readWithin, readProblem}
 use Rattle.frames.proofs.ReachLaws.{number-room}
 
 -- no refusal, or one of a file: 20 to 24
@@ -42,17 +42,17 @@ or-fine : (k : ℕ) (r : Read) → OfFile k → (k ≡ 0 → Fine r) → Fine (o
 or-fine zero r n h = h refl
 or-fine (suc k) r n h = ⊎-elim (λ z. absurd (omega arith)) (λ q. no-problem (q .0) (q .1)) n
 
-lines-fine : (ls : List Line) (s : State) → Held (s .tasks) → Fine (readLines s ls)
-unfolding readLines taken taskOf placeRefusal
+lines-fine : (ls : List Line) (s : Reading) → Held (s .tasks) → Fine (readLines s ls)
+unfolding readLines takenFrame taskOf placeRefusal
 lines-fine [] s h = or-fine (unless (eqb (nth (s .last) 0) 7) 24 0) (said s) (of-file _ 24 0 (omega arith) (omega arith) (inl refl)) (λ e. a-problem h)
 lines-fine (l ∷ ls) s h =
-    or-fine (lineRefusal l) (orRead (placeRefusal s f) (readLines (taken s f) ls)) (line-of-file l) (λ e.
-    or-fine (placeRefusal s f) (readLines (taken s f) ls) (of-file _ 24 0 (omega arith) (omega arith) (inl refl)) (λ q. lines-fine ls (taken s f) (next (unless-none _ 24 0 (omega arith) q .0))))
+    or-fine (lineRefusal l) (orRead (placeRefusal s f) (readLines (takenFrame s f) ls)) (line-of-file l) (λ e.
+    or-fine (placeRefusal s f) (readLines (takenFrame s f) ls) (of-file _ 24 0 (omega arith) (omega arith) (inl refl)) (λ q. lines-fine ls (takenFrame s f) (next (unless-none _ 24 0 (omega arith) q .0))))
   where
     f : List ℕ
     f = bytesOf (l .text)
 
-    next : inPlace (nth (s .last) 0) (length (s .tasks)) f ≡ true → Held (taken s f .tasks)
+    next : inPlace (nth (s .last) 0) (length (s .tasks)) f ≡ true → Held (takenFrame s f .tasks)
     next e = elim (ℕ-discrete (nth f 0) 3) [
       | yes k ↦ rw (eq-eqb (nth f 0) 3 k) (held-more (s .tasks) (taskOf (s .last) f) h (number-room _ _ f e k) refl)
       | no x ↦ rw (ne-eqb (nth f 0) 3 x) h

@@ -21,7 +21,7 @@ pub data Read : Type 0 where
   problem : ℕ → List Task → ℕ → ℕ → Read
 
 -- where a reading stands: the last frame, and what the frames so far have said
-pub record State : Type 0 where
+pub record Reading : Type 0 where
   pub last : List ℕ
   pub m : ℕ
   pub tasks : List Task
@@ -29,11 +29,11 @@ pub record State : Type 0 where
   pub limit : ℕ
 
 -- the problem that they make
-abbrev pub said : State → Read
+abbrev pub said : Reading → Read
 said s = problem (s .m) (s .tasks) (s .engine) (s .limit)
 
 -- before the first frame; 04 left out: engine 0, limit 1000000
-abbrev pub start : State
+abbrev pub start : Reading
 start = record { last = []; m = 0; tasks = []; engine = 0; limit = 1000000 }
 
 -- 01, then for each task its 02 and its 03, then 04 at most once, then 07 and nothing more; kind 0 stands for the start
@@ -63,8 +63,8 @@ taskOf f g = record {
 }
 
 -- what a frame in its place says: 01 the cores, 03 with the 02 before it a task, 04 engine and limit
-unfoldable pub taken : State → List ℕ → State
-taken s f = record {
+unfoldable pub takenFrame : Reading → List ℕ → Reading
+takenFrame s f = record {
   last = f;
   m = cond (eqb (nth f 0) 1) (nth f 1) (s .m);
   tasks = cond (eqb (nth f 0) 3) (s .tasks ++ (taskOf (s .last) f ∷ [])) (s .tasks);
@@ -73,7 +73,7 @@ taken s f = record {
 }
 
 -- 24 out of place, or a task number above 16
-unfoldable pub placeRefusal : State → List ℕ → ℕ
+unfoldable pub placeRefusal : Reading → List ℕ → ℕ
 placeRefusal s f = unless (inPlace (nth (s .last) 0) (length (s .tasks)) f) 24 0
 
 -- the refusal k, or what comes after where it is 0
@@ -82,10 +82,10 @@ orRead zero r = r
 orRead (suc k) r = refused (suc k)
 
 -- line by line 21 to 24; 24 too where there is no end
-unfoldable pub readLines : State → List Line → Read
+unfoldable pub readLines : Reading → List Line → Read
 readLines s [] = orRead (unless (eqb (nth (s .last) 0) 7) 24 0) (said s)
 readLines s (l ∷ ls) =
-    orRead (lineRefusal l) (orRead (placeRefusal s (bytesOf (l .text))) (readLines (taken s (bytesOf (l .text))) ls))
+    orRead (lineRefusal l) (orRead (placeRefusal s (bytesOf (l .text))) (readLines (takenFrame s (bytesOf (l .text))) ls))
 
 -- 20 a text over its limit; then line by line
 unfoldable pub readWithin : ℕ → List ℕ → Read
@@ -100,10 +100,10 @@ unfoldable pub blankOf : ℕ → Problem
 blankOf k = record { refusal = k; m = start .m; list = listOf (start .tasks); engine = start .engine; limit = start .limit }
 
 -- what the code answers of a text
-unfoldable pub told : Read → Problem
-told (refused k) = blankOf k
-told (problem m ts engine limit) = record { refusal = 0; m = m; list = listOf ts; engine = engine; limit = limit }
+unfoldable pub problemOf : Read → Problem
+problemOf (refused k) = blankOf k
+problemOf (problem m ts engine limit) = record { refusal = 0; m = m; list = listOf ts; engine = engine; limit = limit }
 
 -- what it holds of the frames so far
-abbrev pub heldBy : State → Problem
-heldBy s = told (said s)
+abbrev pub heldBy : Reading → Problem
+heldBy s = problemOf (said s)

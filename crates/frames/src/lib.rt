@@ -3,9 +3,9 @@ ghost use mathlib.Core.Path.{_≡_};
 ghost use mathlib.Core.List.{List};
 ghost use Prim.Native.Nat.{ℕ, _+_, _*_, _≤_, _<_};
 ghost use Rattle.laws.specs.Lists.{nth};
-ghost use Rattle.lines.specs.Frame.{two, four, filled};
+ghost use Rattle.lines.specs.Frame.{two, four, tenBytes};
 ghost use Rattle.lines.specs.Lines.{lines};
-ghost use Rattle.frames.specs.Read.{State, start, mayFollow, rightNumber, inPlace, taskOf, taken, readLines, readProblem, blankOf, heldBy, told};
+ghost use Rattle.frames.specs.Read.{Reading, start, mayFollow, rightNumber, inPlace, taskOf, takenFrame, readLines, readProblem, blankOf, heldBy, problemOf};
 use lines::CORES;
 use lines::END;
 use lines::LIMIT;
@@ -120,7 +120,7 @@ fn task_of(last: [u8; 10], frame: [u8; 10]) -> Task
 // What the frames so far have said, and what one more in its place says.
 fn take_frame(mut p: Problem, last: [u8; 10], frame: [u8; 10]) -> Problem
     requires { ⌜ (nth frame 0 ≡ 3 → p .list .n < 16) ⌝ }
-    ensures { λ r. ⌜ ((s : State) → p ≡ heldBy s → last ≡ filled (s .last) → (f : List ℕ) → frame ≡ filled f → r ≡ heldBy (taken s f)) ⌝ }
+    ensures { λ r. ⌜ ((s : Reading) → p ≡ heldBy s → last ≡ tenBytes (s .last) → (f : List ℕ) → frame ≡ tenBytes f → r ≡ heldBy (takenFrame s f)) ⌝ }
 {
     match frame[0] {
         CORES => {
@@ -160,7 +160,7 @@ fn blank(refusal: u8) -> Problem
 
 // Refusals 21 to 24, line by line; else the problem.
 fn read_lines(text: &[u8]) -> Problem
-    ensures { λ r. ⌜ r ≡ told (readLines start (lines (now (text .entry)))) ⌝ }
+    ensures { λ r. ⌜ r ≡ problemOf (readLines start (lines (now (text .entry)))) ⌝ }
 {
     let mut p = blank(0);
     let mut last = [0u8; 10];
@@ -187,7 +187,7 @@ fn read_lines(text: &[u8]) -> Problem
 
 // The problem that a text holds, or its refusal.
 pub fn read_problem(text: &[u8]) -> Problem
-    ensures { λ r. ⌜ r ≡ told (readProblem (now (text .entry))) ⌝ }
+    ensures { λ r. ⌜ r ≡ problemOf (readProblem (now (text .entry))) ⌝ }
 {
     if MAX_TEXT < text.len() {
         return blank(TOO_LONG);

@@ -21,7 +21,7 @@ use Rattle.tasks.specs.Refusal.{within, unless, orNext, taskRefusal, listRefusa
 use Rattle.tasks.proofs.NumberLaws.{list-added, rows-back}
 use Rattle.tasks.proofs.AnswerLaws.{within-low, within-high, within-passed, or-first}
 use Rattle.lent.specs.declared.Lent.{Lent}
-use Rattle.lent.specs.Scan.{countRefusal, scanRefusal, refusedBy, lentIf, Scanned, goesOn, taken}
+use Rattle.lent.specs.Scan.{countRefusal, scanRefusal, refusedLent, lentIf, Scanned, moreToScan, takenTask}
 
 -- ---- refusals 1 and 2
 -- a number in a range
@@ -56,14 +56,14 @@ module _ (n m : ℕ) where
 
 -- ---- the tasks
 -- a task that is refused
-pub taken-refused : (m r : ℕ) (l : Lent) (τ : Task) → r ≡ taskRefusal m τ → r ≢ 0 → refusedBy r ≡ taken m l τ
-unfolding taken
+pub taken-refused : (m r : ℕ) (l : Lent) (τ : Task) → r ≡ taskRefusal m τ → r ≢ 0 → refusedLent r ≡ takenTask m l τ
+unfolding takenTask
 taken-refused m zero l τ e x = absurd (x refl)
 taken-refused m (suc r) l τ e x = rw (sym e)
 
 -- and one that is added
-pub taken-added : (m r : ℕ) (l : Lent) (τ : Task) (x : TaskList) → r ≡ taskRefusal m τ → r ≡ 0 → x ≡ added (l .list) τ → record { refusal = r; list = x } ≡ taken m l τ
-unfolding taken
+pub taken-added : (m r : ℕ) (l : Lent) (τ : Task) (x : TaskList) → r ≡ taskRefusal m τ → r ≡ 0 → x ≡ added (l .list) τ → record { refusal = r; list = x } ≡ takenTask m l τ
+unfolding takenTask
 taken-added m r l τ x e z h = rw (h, z, sym e ∙ z)
 
 -- a task that is not refused, of four rates
@@ -80,7 +80,7 @@ pub record Passed (m : ℕ) (ts : List Task) (i : ℕ) (l : TaskList) : Type 0 w
 
 -- where the scan stands before task i: at its refusal, or at the tasks so far
 pub data Reached (m : ℕ) (ts : List Task) (i : ℕ) : Lent → Type 0 where
-  refused : {r : ℕ} → suc r ≡ scanRefusal m ts → Reached m ts i (refusedBy (suc r))
+  refused : {r : ℕ} → suc r ≡ scanRefusal m ts → Reached m ts i (refusedLent (suc r))
   passed : {l : TaskList} → Passed m ts i l → Reached m ts i (record { refusal = 0; list = l })
 
 -- at most 16
@@ -94,19 +94,19 @@ both-true false b e = absurd (false≢true e)
 
 module _ (m : ℕ) (ts : List Task) where
   -- before the first
-  pub reach-first : Reached m ts 0 (refusedBy (countRefusal (length ts) m 0))
-  unfolding scanRefusal refusedBy unless
+  pub reach-first : Reached m ts 0 (refusedLent (countRefusal (length ts) m 0))
+  unfolding scanRefusal refusedLent unless
   reach-first = go (within 1 16 (length ts)) (within 1 4 m) refl refl
     where
-      go : (a b : Bool) → within 1 16 (length ts) ≡ a → within 1 4 m ≡ b → Reached m ts 0 (refusedBy (unless a 1 (unless b 2 0)))
+      go : (a b : Bool) → within 1 16 (length ts) ≡ a → within 1 4 m ≡ b → Reached m ts 0 (refusedLent (unless a 1 (unless b 2 0)))
       go true true ea eb = passed (record { count = ea; cores = eb; list = refl; each = λ k l. absurd (omega arith) })
       go true false ea eb = refused {r = 1} (rw (ea, eb) refl)
       go false b ea eb = refused {r = 0} (rw ea refl)
 
   -- one task further
-  pub reach-next : (i : ℕ) (r : Lent) → Reached m ts i r → goesOn r i (length ts) ≡ true → length (getD ts i noTask .rates .0) ≡ 4
-      → Reached m ts (i + 1) (taken m r (getD ts i noTask))
-  unfolding goesOn refusedBy taken scanRefusal listRefusal unless
+  pub reach-next : (i : ℕ) (r : Lent) → Reached m ts i r → moreToScan r i (length ts) ≡ true → length (getD ts i noTask .rates .0) ≡ 4
+      → Reached m ts (i + 1) (takenTask m r (getD ts i noTask))
+  unfolding moreToScan refusedLent takenTask scanRefusal listRefusal unless
   reach-next i _ (refused {r} e) t four = absurd (true≢false (sym t ∙ ap (λ b. b && ltb i (length ts)) (eqb·suc-zero r)))
   reach-next i _ (passed {l} p) t four = go (taskRefusal m τ) refl
     where
@@ -133,8 +133,8 @@ module _ (m : ℕ) (ts : List Task) where
       go (suc k) e = refused {r = k} (sym (rw (p .count, p .cores) (first-is (length ts) i (λ k. taskRefusal m (getD ts k noTask)) less (λ k q. p .each k q .none) (λ z. omega (arith, sym e ∙ z)) ∙ e)))
 
   -- behind the last task, or at a refusal
-  pub reach-end : (i : ℕ) (r : Lent) → i ≤ length ts → Reached m ts i r → goesOn r i (length ts) ≡ false → Scanned m ts r
-  unfolding goesOn refusedBy scanRefusal listRefusal unless
+  pub reach-end : (i : ℕ) (r : Lent) → i ≤ length ts → Reached m ts i r → moreToScan r i (length ts) ≡ false → Scanned m ts r
+  unfolding moreToScan refusedLent scanRefusal listRefusal unless
   reach-end i _ h (refused {r} e) t = record { answer = ap (λ k. lentIf k (listOf ts)) e; tasks = λ z. absurd (omega arith) }
   reach-end i _ h (passed {l} p) t = record { answer = rw (p .count, p .cores, none, all); tasks = λ z. ap rows all ∙ rows-back ts (record { few = few-tasks p; four-rates = λ k q. p .each k (omega (arith, end)) .four-rates }) }
     where
@@ -148,12 +148,12 @@ module _ (m : ℕ) (ts : List Task) where
       none = first-none (length ts) (λ k. taskRefusal m (getD ts k noTask)) (λ k q. p .each k (omega (arith, end)) .none)
 
   -- a task is there to be taken, and room for it
-  pub reach-less : (i : ℕ) (r : Lent) → goesOn r i (length ts) ≡ true → i < length ts
-  unfolding goesOn
+  pub reach-less : (i : ℕ) (r : Lent) → moreToScan r i (length ts) ≡ true → i < length ts
+  unfolding moreToScan
   reach-less i r t = ltb-true i (length ts) (both-true (eqb (r .refusal) 0) (ltb i (length ts)) t)
 
-  pub reach-room : (i : ℕ) (r : Lent) → Reached m ts i r → goesOn r i (length ts) ≡ true → r .list .n < 16
-  unfolding goesOn refusedBy listOf
+  pub reach-room : (i : ℕ) (r : Lent) → Reached m ts i r → moreToScan r i (length ts) ≡ true → r .list .n < 16
+  unfolding moreToScan refusedLent listOf
   reach-room i _ (refused {r} e) t = omega arith
   reach-room i _ (passed {l} p) t =
       let less : i < length ts = ltb-true i (length ts) t in
@@ -171,7 +171,7 @@ refuses-list m ts = go (within 1 16 (length ts)) (within 1 4 m) _
     go false b next x = refl
 
 pub scan-refused : {m : ℕ} {ts : List Task} {r : Lent} → Scanned m ts r → r .refusal ≢ 0 → r .refusal ≡ refusal m ts
-unfolding refusedBy
+unfolding refusedLent
 scan-refused {m} {ts} {r} s x = told ∙ refuses-list m ts (λ z. x (told ∙ z))
   where
     number : (k : ℕ) (l : TaskList) → lentIf k l .refusal ≡ k

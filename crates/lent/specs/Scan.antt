@@ -21,13 +21,13 @@ unfoldable pub scanRefusal : ℕ → List Task → ℕ
 scanRefusal m ts = countRefusal (length ts) m (listRefusal m ts)
 
 -- a refusal, and no task
-unfoldable pub refusedBy : ℕ → Lent
-refusedBy r = record { refusal = r; list = listOf [] }
+unfoldable pub refusedLent : ℕ → Lent
+refusedLent r = record { refusal = r; list = listOf [] }
 
 -- the list where nothing is refused
 abbrev pub lentIf : ℕ → TaskList → Lent
 lentIf zero l = record { refusal = 0; list = l }
-lentIf (suc r) l = refusedBy (suc r)
+lentIf (suc r) l = refusedLent (suc r)
 
 -- what the scan answers: the refusal, or the list as numbers, whose tasks are the lent ones
 pub record Scanned (m : ℕ) (ts : List Task) (r : Lent) : Type 0 where
@@ -36,9 +36,9 @@ pub record Scanned (m : ℕ) (ts : List Task) (r : Lent) : Type 0 where
 
 -- ---- the scan's steps
 -- a task is left to scan at place i of n: none has been refused
-unfoldable pub goesOn : Lent → ℕ → ℕ → Bool
-goesOn l i n = eqb (l .refusal) 0 && ltb i n
+unfoldable pub moreToScan : Lent → ℕ → ℕ → Bool
+moreToScan l i n = eqb (l .refusal) 0 && ltb i n
 
 -- one more task: its refusal, or the list with the task behind its last
-unfoldable pub taken : ℕ → Lent → Task → Lent
-taken m l τ = lentIf (taskRefusal m τ) (added (l .list) τ)
+unfoldable pub takenTask : ℕ → Lent → Task → Lent
+takenTask m l τ = lentIf (taskRefusal m τ) (added (l .list) τ)

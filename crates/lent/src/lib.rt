@@ -1,7 +1,7 @@
 // The tasks that the caller lends: a scan for refusals 1 to 7 that takes them over into a list as numbers.
 ghost use mathlib.Core.Path.{_≡_};
 ghost use Prim.Native.Nat.{_<_};
-ghost use Rattle.lent.specs.Scan.{countRefusal, refusedBy, Scanned, goesOn, taken};
+ghost use Rattle.lent.specs.Scan.{countRefusal, refusedLent, Scanned, moreToScan, takenTask};
 use tasks::MAX_CORES;
 use tasks::MAX_TASKS;
 use tasks::Task;
@@ -15,7 +15,7 @@ pub struct Lent {
 
 // A refusal, 0 for none, and no task.
 fn refused(refusal: u8) -> Lent
-    ensures { λ r. ⌜ r ≡ refusedBy refusal ⌝ }
+    ensures { λ r. ⌜ r ≡ refusedLent refusal ⌝ }
 {
     Lent {
         refusal,
@@ -32,7 +32,7 @@ fn refused(refusal: u8) -> Lent
 
 // Before the first of n tasks: refusals 1 and 2.
 fn begin(n: usize, m: u8) -> Lent
-    ensures { λ r. ⌜ r ≡ refusedBy (countRefusal n m 0) ⌝ }
+    ensures { λ r. ⌜ r ≡ refusedLent (countRefusal n m 0) ⌝ }
 {
     if n == 0 {
         return refused(tasks::BAD_COUNT);
@@ -50,8 +50,8 @@ fn begin(n: usize, m: u8) -> Lent
 }
 
 // Whether a task is left to scan at place i of n: none has been refused.
-fn goes_on(lent: Lent, i: usize, n: usize) -> bool
-    ensures { λ r. ⌜ r ≡ goesOn lent i n ⌝ }
+fn more_to_scan(lent: Lent, i: usize, n: usize) -> bool
+    ensures { λ r. ⌜ r ≡ moreToScan lent i n ⌝ }
 {
     if lent.refusal != 0 {
         return false;
@@ -62,7 +62,7 @@ fn goes_on(lent: Lent, i: usize, n: usize) -> bool
 // One more task: its refusal, 3 to 7, or the list with the task behind its last.
 fn take_task(lent: Lent, t: Task, m: u8) -> Lent
     requires { ⌜ lent .list .n < 16 ⌝ }
-    ensures { λ r. ⌜ r ≡ taken m lent t ⌝ }
+    ensures { λ r. ⌜ r ≡ takenTask m lent t ⌝ }
 {
     let refusal = tasks::task_refusal(t, m);
     if refusal != 0 {
@@ -81,7 +81,7 @@ pub fn scan(tasks: &[Task], m: u8) -> Lent
 {
     let mut lent = begin(tasks.len(), m);
     let mut i: usize = 0;
-    while goes_on(lent, i, tasks.len()) {
+    while more_to_scan(lent, i, tasks.len()) {
         lent = take_task(lent, tasks[i], m);
         i += 1;
     }

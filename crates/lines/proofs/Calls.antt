@@ -11,7 +11,7 @@ use denote.Ref.{now}
 use Rattle.laws.specs.Lists.{nth}
 use Rattle.laws.proofs.SumLaws.{lt-or-ge}
 use Rattle.laws.proofs.Only.{Says, only, only-both}
-use Rattle.lines.specs.Frame.{lengthOfKind, filled}
+use Rattle.lines.specs.Frame.{lengthOfKind, tenBytes}
 use Rattle.lines.specs.Lines.{bytesOf, LineEnd, lineAt, lineOf}
 use Rattle.lines.specs.Refusal.{lineRefusal}
 use Rattle.lines.proofs.put_frame as put-frame
@@ -55,7 +55,7 @@ line-refusal-only text from to r r′ = only
 
 -- ---- frame_at
 abbrev pub FrameAt : List ℕ → ℕ → ℕ → List ℕ → Type 0
-FrameAt text from to r = r ≡ filled (bytesOf (slice from to text))
+FrameAt text from to r = r ≡ tenBytes (bytesOf (slice from to text))
 
 frame-at-says : (κs text from to text′ from′ to′ r : _)
     → Says (λ M 𝓤 H A mem run. frame-at.ensures-1 𝓤 H κs A mem run text from to text′ from′ to′ r) (FrameAt (now (text′ .entry)) from to r)

@@ -15,7 +15,7 @@ use Rattle.laws.specs.Lists.{nth}
 use Rattle.laws.proofs.SumLaws.{lt-or-ge}
 use Rattle.laws.proofs.ListLaws.{tab-set}
 use Rattle.lines.specs.Lines.{isDigit, digitOf, pairs, bytesOf, before, lines, lineAt, LineEnd}
-use Rattle.lines.specs.Frame.{filled}
+use Rattle.lines.specs.Frame.{tenBytes}
 use Rattle.lines.proofs.ListLaws.{slice-is}
 
 -- the first line of a text with no line feed before place n, and one there or its end
@@ -145,8 +145,8 @@ byte-at (a ∷ b ∷ s) (suc k) h =
 -- ---- a frame, byte by byte
 module _ (bytes : List ℕ) where
   -- one more
-  pub filled-more : (frame : List ℕ) (k x : ℕ) → k < 10 → frame ≡ filled (take k bytes) → x ≡ nth bytes k → set frame k x ≡ filled (take (k + 1) bytes)
-  unfolding filled
+  pub filled-more : (frame : List ℕ) (k x : ℕ) → k < 10 → frame ≡ tenBytes (take k bytes) → x ≡ nth bytes k → set frame k x ≡ tenBytes (take (k + 1) bytes)
+  unfolding tenBytes
   filled-more frame k x l e q =
       ap (λ f. set f k x) e ∙ tab-set 10 k x (nth (take k bytes)) (nth (take (k + 1) bytes)) l (getD-take (k + 1) bytes k 0 (omega arith) ∙ sym q) beside
     where
@@ -158,8 +158,8 @@ module _ (bytes : List ℕ) where
           (lt-or-ge j k)
 
   -- the whole of it
-  pub filled-all : (frame : List ℕ) (k : ℕ) → length bytes ≤ k → frame ≡ filled (take k bytes) → frame ≡ filled bytes
-  filled-all frame k l e = e ∙ ap filled (take-all k bytes l)
+  pub filled-all : (frame : List ℕ) (k : ℕ) → length bytes ≤ k → frame ≡ tenBytes (take k bytes) → frame ≡ tenBytes bytes
+  filled-all frame k l e = e ∙ ap tenBytes (take-all k bytes l)
 
 -- the byte of a pair of it
 pub part-byte : (text : List ℕ) (from to k x : ℕ) → to ≤ length text → from + k * 2 + 1 < to

@@ -35,5 +35,5 @@ unfoldable pub four : List ℕ → ℕ → ℕ
 four f k = two f k * 65536 + two f (k + 2)
 
 -- a frame's bytes, filled up with 0
-unfoldable pub filled : List ℕ → List ℕ
-filled f = tab 10 (nth f)
+unfoldable pub tenBytes : List ℕ → List ℕ
+tenBytes f = tab 10 (nth f)

@@ -5,7 +5,7 @@ ghost use Prim.Native.Nat.{_+_, _*_, _≤_, _<_};
 ghost use lib.ListN.{length, take};
 ghost use lib.Seq.{sets, slice};
 ghost use Rattle.laws.specs.Lists.{nth};
-ghost use Rattle.lines.specs.Frame.{lengthOfKind, sortOf, filled};
+ghost use Rattle.lines.specs.Frame.{lengthOfKind, sortOf, tenBytes};
 ghost use Rattle.lines.specs.Lines.{isDigit, digitOf, pairs, bytesOf, LineEnd, lineAt, hexOf, digits, lineOf};
 ghost use Rattle.lines.specs.Refusal.{lengthRefusal, frameRefusal, lineRefusal};
 
@@ -203,7 +203,7 @@ pub fn line_refusal(text: &[u8], from: usize, to: usize) -> u8
 // The bytes of a line, filled up with 0.
 pub fn frame_at(text: &[u8], from: usize, to: usize) -> [u8; 10]
     requires { ⌜ (from ≤ to) × (to ≤ length (now text)) × (to ≤ from + 21) ⌝ }
-    ensures { λ r. ⌜ r ≡ filled (bytesOf (slice from to (now (text .entry)))) ⌝ }
+    ensures { λ r. ⌜ r ≡ tenBytes (bytesOf (slice from to (now (text .entry)))) ⌝ }
 {
     let count = (to - from) / 2;
     let mut frame = [0u8; 10];

@@ -10,7 +10,7 @@ use Rattle.laws.proofs.Only.{Says, only-both}
 use Rattle.tasks.specs.declared.Task.{Task}
 use Rattle.rules.specs.Search.{search}
 use Rattle.search.specs.declared.Answer.{Answer}
-use Rattle.search.specs.Told.{toldOf}
+use Rattle.search.specs.Told.{searchedAs}
 use Rattle.search.proofs.Calls.{told-only}
 use Rattle.checker.specs.declared.Verdict.{Verdict}
 use Rattle.checker.proofs.Calls.{Checks, told-only as checked-only}
@@ -27,7 +27,7 @@ use Rattle.planner.proofs.plan_text as plan-text
 
 -- ---- plan: it finds the buffer t, answers r and leaves the buffer t′
 abbrev pub Plan : List Task → ℕ → ℕ → ℕ → List ℕ → Answer → List ℕ → Type 0
-Plan ts m e b t r t′ = toldOf r t′ ≡ search m ts e b t
+Plan ts m e b t r t′ = searchedAs r t′ ≡ search m ts e b t
 
 plan-says : (κs tasks m engine limit table tasks′ m′ engine′ limit′ table′ r : _)
     → Says (λ M 𝓤 H A mem run. plan.ensures-1 𝓤 H κs A mem run tasks m engine limit table tasks′ m′ engine′ limit′ table′ r)

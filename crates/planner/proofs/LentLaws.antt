@@ -13,10 +13,10 @@ use Rattle.rules.specs.Search.{Searched, search}
 use Rattle.lent.specs.declared.Lent.{Lent}
 use Rattle.lent.specs.Scan.{Scanned}
 use Rattle.lent.proofs.ScanLaws.{scan-refused}
-use Rattle.search.specs.Told.{refusedBy, toldOf}
+use Rattle.search.specs.Told.{refusedAnswer, searchedAs}
 use Rattle.search.proofs.AnswerLaws.{list-refused}
 use Rattle.checker.specs.declared.Verdict.the-variants.{Refused}
-use Rattle.checker.specs.Checks.{toldOf as checkedAs}
+use Rattle.checker.specs.Checks.{checkedAs}
 use Rattle.checker.proofs.TellLaws.{check-refused}
 use Rattle.player.specs.declared.Player.{Player}
 use Rattle.clock.specs.declared.Shown.{Shown}
@@ -24,8 +24,8 @@ use Rattle.player.specs.Player.{recordOr, checkRefusal, recordOf, firstShown, s
 
 module _ {m : ℕ} {ts : List Task} {r : Lent} (s : Scanned m ts r) (x : r .refusal ≢ 0) where
   -- the search reports the refusal and 0 tries, and leaves the buffer
-  pub search-refused : (e b : ℕ) (buffer : List ℕ) → toldOf (refusedBy (r .refusal)) buffer ≡ search m ts e b buffer
-  search-refused e b buffer = list-refused m ts e b buffer (r .refusal) (refusedBy (r .refusal)) (NotSound (r .refusal)) (refused-answer m ts (r .refusal) x (scan-refused s x)) refl refl
+  pub search-refused : (e b : ℕ) (buffer : List ℕ) → searchedAs (refusedAnswer (r .refusal)) buffer ≡ search m ts e b buffer
+  search-refused e b buffer = list-refused m ts e b buffer (r .refusal) (refusedAnswer (r .refusal)) (NotSound (r .refusal)) (refused-answer m ts (r .refusal) x (scan-refused s x)) refl refl
 
   -- the checker tells it
   pub checked-refused : (t : List ℕ) → checkedAs (Refused (r .refusal)) ≡ check m ts t

@@ -22,15 +22,15 @@ use Rattle.tasks.specs.Refusal.{refusal, tableLength, testedAs, tested, IsSound
 use Rattle.tasks.proofs.NumberLaws.{rows-back}
 use Rattle.tasks.proofs.SoundLaws.{next-none, sound-list}
 use Rattle.tasks.proofs.AnswerLaws.{tested-sound, tested-refused}
-use Rattle.rules.specs.Search.{Searched, toldUnless, searchRefusal, search}
+use Rattle.rules.specs.Search.{Searched, searchToldUnless, searchRefusal, search}
 use Rattle.frames.specs.declared.Problem.{Problem}
-use Rattle.frames.specs.Read.{Read, refused, problem, readProblem, blankOf, told}
+use Rattle.frames.specs.Read.{Read, refused, problem, readProblem, blankOf, problemOf}
 use Rattle.answer.specs.Write.{slotLines, writeAnswer, canWrite, Written}
 use Rattle.frames.proofs.ProblemLaws.{read-held, read-refused}
 use Rattle.search.specs.declared.Answer.{Answer}
-use Rattle.search.specs.Told.{toldOf}
+use Rattle.search.specs.Told.{searchedAs}
 use Rattle.planner.specs.declared.Size.{Size}
-use Rattle.planner.specs.Answer.{sizeOf, searchAnswer, answerOf, answerTo}
+use Rattle.planner.specs.Answer.{sizeOf, searchAnswer, answerToRead, answerTo}
 
 -- ---- the table's size
 -- of a sound list
@@ -55,11 +55,11 @@ unfolding writeAnswer slotLines gate
 written-same v k H m H′ m′ t t′ x = rw (ne-eqb v 0 x)
 
 -- the answer to a text that is refused
-pub refused-text : (text : List ℕ) (p : Problem) (t : List ℕ) → p ≡ told (readProblem text) → p .refusal ≢ 0 → writeAnswer (p .refusal) 0 0 0 t ≡ answerTo text
-unfolding told blankOf answerOf
+pub refused-text : (text : List ℕ) (p : Problem) (t : List ℕ) → p ≡ problemOf (readProblem text) → p .refusal ≢ 0 → writeAnswer (p .refusal) 0 0 0 t ≡ answerTo text
+unfolding problemOf blankOf answerToRead
 refused-text text p t e x = go (readProblem text) (ap (λ q. q .refusal) e)
   where
-    go : (r : Read) → p .refusal ≡ told r .refusal → writeAnswer (p .refusal) 0 0 0 t ≡ answerOf r
+    go : (r : Read) → p .refusal ≡ problemOf r .refusal → writeAnswer (p .refusal) 0 0 0 t ≡ answerToRead r
     go (refused k) q = rw q (written-same k 0 0 0 0 0 t [] (λ z. x (q ∙ z)))
     go (problem m ts engine limit) q = absurd (x q)
 
@@ -68,7 +68,7 @@ found-sound : (m : ℕ) (ts : List Task) (e b : ℕ) (buffer : List ℕ) → sea
 unfolding search searchRefusal
 found-sound m ts e b buffer z = next-none _ _ (go (searchRefusal m ts e (length buffer)) _ z) .0
   where
-    go : (k : ℕ) (s : Searched) → toldUnless k buffer s .verdict ≡ 0 → k ≡ 0
+    go : (k : ℕ) (s : Searched) → searchToldUnless k buffer s .verdict ≡ 0 → k ≡ 0
     go zero s z = refl
     go (suc k) s z = absurd (omega arith)
 
@@ -97,16 +97,16 @@ unfolding canWrite
 can-refuse cells room = rw (le-leb 0 cells (omega arith)) (and-true (leb 15376 room))
 
 -- the answer to a text that holds a problem
-pub searched-text : (text : List ℕ) (p : Problem) (size : Size) (a : Answer) (t : List ℕ) → p ≡ told (readProblem text) → p .refusal ≡ 0
-    → size ≡ sizeOf (p .m) (rows (p .list)) → toldOf a t ≡ search (p .m) (rows (p .list)) (p .engine) (p .limit) (replicate 4096 0)
+pub searched-text : (text : List ℕ) (p : Problem) (size : Size) (a : Answer) (t : List ℕ) → p ≡ problemOf (readProblem text) → p .refusal ≡ 0
+    → size ≡ sizeOf (p .m) (rows (p .list)) → searchedAs a t ≡ search (p .m) (rows (p .list)) (p .engine) (p .limit) (replicate 4096 0)
     → writeAnswer (a .verdict) (a .tries) (size .slots) (size .m) t ≡ answerTo text
-unfolding told blankOf answerOf
+unfolding problemOf blankOf answerToRead
 searched-text text p size a t e z es ea =
     ap (λ s. writeAnswer (s .verdict) (s .tries) (size .slots) (size .m) (s .buffer)) ea
     ∙ search-written (p .m) (rows (p .list)) (p .engine) (p .limit) (replicate 4096 0) size es
     ∙ go (readProblem text) refl e
   where
-    go : (r : Read) → readProblem text ≡ r → p ≡ told r → searchAnswer (p .m) (rows (p .list)) (search (p .m) (rows (p .list)) (p .engine) (p .limit) (replicate 4096 0)) ≡ answerOf r
+    go : (r : Read) → readProblem text ≡ r → p ≡ problemOf r → searchAnswer (p .m) (rows (p .list)) (search (p .m) (rows (p .list)) (p .engine) (p .limit) (replicate 4096 0)) ≡ answerToRead r
     go (refused k) h q = absurd (omega (arith, read-refused text k h .0, sym (ap (λ x. x .refusal) q) ∙ z))
     go (problem m ts engine limit) h q =
         (λ i. searchAnswer (q i .m) (rows (q i .list)) (search (q i .m) (rows (q i .list)) (q i .engine) (q i .limit) (replicate 4096 0)))

@@ -26,10 +26,10 @@ unfoldable pub searchAnswer : ℕ → List Task → Searched → List ℕ
 searchAnswer m ts s = writeAnswer (s .verdict) (s .tries) (tableLength ts) m (s .buffer)
 
 -- a refusal, of the file too, stands in 05 as the verdict, with 0 tries; the search has room for the largest table
-unfoldable pub answerOf : Read → List ℕ
-answerOf (refused k) = writeAnswer k 0 0 0 []
-answerOf (problem m ts e b) = searchAnswer m ts (search m ts e b (replicate 4096 0))
+unfoldable pub answerToRead : Read → List ℕ
+answerToRead (refused k) = writeAnswer k 0 0 0 []
+answerToRead (problem m ts e b) = searchAnswer m ts (search m ts e b (replicate 4096 0))
 
 -- the answer to a text
 abbrev pub answerTo : List ℕ → List ℕ
-answerTo text = answerOf (readProblem text)
+answerTo text = answerToRead (readProblem text)

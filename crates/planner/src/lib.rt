@@ -6,8 +6,8 @@ ghost use Rattle.tasks.specs.Task.{rows};
 ghost use Rattle.table.specs.Fault.{check as checkOf};
 ghost use Rattle.rules.specs.Search.{search as searchOf};
 ghost use Rattle.lent.specs.Scan.{Scanned};
-ghost use Rattle.search.specs.Told.{toldOf};
-ghost use Rattle.checker.specs.Checks.{toldOf as checkedAs};
+ghost use Rattle.search.specs.Told.{searchedAs};
+ghost use Rattle.checker.specs.Checks.{checkedAs};
 ghost use Rattle.player.specs.Player.{started, afterStart};
 ghost use lib.ListN.{length};
 ghost use lib.Dec.{leb};
@@ -25,7 +25,7 @@ use tasks::TaskList;
 
 // The search of a list that was scanned: its refusal, or the core's answer.
 fn search_lent(lent: Lent, m: u8, engine: u8, limit: u32, table: &mut [u8]) -> Answer
-    ensures { λ r. ⌜ ((ts : List Task) → Scanned m ts lent → toldOf r (now (table .exit)) ≡ searchOf m ts engine limit (now (table .entry))) ⌝ }
+    ensures { λ r. ⌜ ((ts : List Task) → Scanned m ts lent → searchedAs r (now (table .exit)) ≡ searchOf m ts engine limit (now (table .entry))) ⌝ }
 {
     let verdict = lent.refusal;
     if verdict != 0 {
@@ -37,7 +37,7 @@ fn search_lent(lent: Lent, m: u8, engine: u8, limit: u32, table: &mut [u8]) -> A
 
 // The search of the lent tasks on m cores, by an engine, with a limit of tries, into the caller's buffer.
 pub fn plan(tasks: &[Task], m: u8, engine: u8, limit: u32, table: &mut [u8]) -> Answer
-    ensures { λ r. ⌜ toldOf r (now (table .exit)) ≡ searchOf m (now (tasks .entry)) engine limit (now (table .entry)) ⌝ }
+    ensures { λ r. ⌜ searchedAs r (now (table .exit)) ≡ searchOf m (now (tasks .entry)) engine limit (now (table .entry)) ⌝ }
 {
     let lent = lent::scan(tasks, m);
     search_lent(lent, m, engine, limit, table)

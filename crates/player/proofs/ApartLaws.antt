@@ -6,7 +6,7 @@ use mathlib.Core.List.{[], _∷_}
 use native.Mathlib.Nat.{add-zero}
 use Rattle.laws.specs.Lists.{nth, tabFrom}
 use Rattle.clock.specs.declared.Next.{Next}
-use Rattle.clock.specs.Clock.{stepRefusal, nextOf, answerOf}
+use Rattle.clock.specs.Clock.{stepRefusal, nextOf, shownOf}
 use Rattle.clock.proofs.StepLaws.{next-in}
 use Rattle.player.specs.declared.Player.{Player}
 use Rattle.player.specs.Player.{cellsOf, workedOut, stored, stepped, afterStep}
@@ -14,8 +14,8 @@ use Rattle.player.specs.Player.{cellsOf, workedOut, stored, stepped, aft
 module _ (p : Player) (tick : ℕ) where
   -- a step's answer, by its refusal
   answer-is : (v : ℕ) → v ≡ stepRefusal (p .last) (p .h) (p .position) (p .age) (p .m) (p .n) tick → let at = workedOut p tick .at in
-      answerOf (workedOut p tick) (p .m) (p .n) (p .offsets) (nth (p .table) at ∷ nth (p .table) (at + 1) ∷ nth (p .table) (at + 2) ∷ nth (p .table) (at + 3) ∷ []) ≡ stepped p tick
-  unfolding nextOf answerOf stepped afterStep cellsOf tabFrom
+      shownOf (workedOut p tick) (p .m) (p .n) (p .offsets) (nth (p .table) at ∷ nth (p .table) (at + 1) ∷ nth (p .table) (at + 2) ∷ nth (p .table) (at + 3) ∷ []) ≡ stepped p tick
+  unfolding nextOf shownOf stepped afterStep cellsOf tabFrom
   answer-is zero e = rw (← e) (rw add-zero)
   answer-is (suc v) e = rw (← e)
 
@@ -28,5 +28,5 @@ module _ (p : Player) (tick : ℕ) where
     unfolding afterStep
     stores = ap (stored p) e
 
-    pub answers : answerOf x (p .m) (p .n) (p .offsets) (nth (p .table) (x .at) ∷ nth (p .table) (x .at + 1) ∷ nth (p .table) (x .at + 2) ∷ nth (p .table) (x .at + 3) ∷ []) ≡ stepped p tick
+    pub answers : shownOf x (p .m) (p .n) (p .offsets) (nth (p .table) (x .at) ∷ nth (p .table) (x .at + 1) ∷ nth (p .table) (x .at + 2) ∷ nth (p .table) (x .at + 3) ∷ []) ≡ stepped p tick
     answers = rw e (answer-is _ refl)

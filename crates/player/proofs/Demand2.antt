@@ -22,7 +22,7 @@ use Rattle.tasks.proofs.SoundLaws.{SoundList, sound-list}
 use Rattle.table.specs.Table.{cells, Valid}
 use Rattle.table.specs.Fault.{noFault, inCell, inJob, Checked, refused, checked, check}
 use Rattle.checker.specs.declared.Verdict.the-variants.{Valid as IsValid}
-use Rattle.checker.specs.Checks.{toldOf}
+use Rattle.checker.specs.Checks.{checkedAs}
 use Rattle.checker.proofs.Calls.{Checks}
 use Rattle.checker.proofs.Demand2.{tells}
 use Rattle.clock.specs.declared.Shown.{Shown}
@@ -85,7 +85,7 @@ module _ (ts : List Task) (m : ℕ) (t : List ℕ) (p : Player) (tick : ℕ → 
 
   -- the checker finds no fault
   faultless : check m ts t ≡ checked noFault
-  unfolding toldOf
+  unfolding checkedAs
   faultless = sym valid
 
   -- so the list is sound, and the table is long enough and meets C1 to C4
@@ -222,5 +222,5 @@ module _ (ts : List Task) (m : ℕ) (t : List ℕ) (p q : Player) (τ : ℕ) (r 
 
   -- so a start is accepted exactly if the checker finds the table valid
   pub accepts : (r .verdict ≡ 0) ↔ Checks ts m t IsValid
-  unfolding toldOf
+  unfolding checkedAs
   accepts = (λ z. sym (none-wrong (check m ts t) (some-refused m ts t) (sym start-verdict ∙ z)), λ x. start-verdict ∙ ap checkRefusal (sym x))

@@ -28,10 +28,10 @@ use Rattle.tasks.proofs.AnswerLaws.{tested-sound, tested-refused}
 use Rattle.table.specs.Fault.{Fault, checkedIf, check}
 use Rattle.checker.specs.declared.Verdict.{Verdict}
 use Rattle.checker.specs.declared.Verdict.the-variants.{Valid, Cell, Job, Refused as Told}
-use Rattle.checker.specs.Checks.{toldOf}
+use Rattle.checker.specs.Checks.{checkedAs}
 use Rattle.clock.specs.declared.Next.{Next}
 use Rattle.clock.specs.declared.Shown.{Shown}
-use Rattle.clock.specs.Clock.{staysOf, answerOf}
+use Rattle.clock.specs.Clock.{staysOf, shownOf}
 use Rattle.player.specs.declared.Player.{Player}
 use Rattle.player.specs.Player.{cellsOf, firstShown, checkRefusal, startRefusal, padded, recordOf, started, afterStart, Startable}
 
@@ -165,29 +165,29 @@ module _ (list : TaskList) (m : ℕ) (t : List ℕ) (v : ℕ) (e : v ≡ startRe
 
 -- the answer of a start, by the first four cells of its record
 pub first-is : (p : Player) (v : ℕ) (x : Next) (s : Shown) → (v ≡ 0 → p .position ≡ 0) → x ≡ staysOf (p .last) (p .position) (p .age) v
-    → s ≡ answerOf x (p .m) (p .n) (p .offsets) (nth (p .table) 0 ∷ nth (p .table) 1 ∷ nth (p .table) 2 ∷ nth (p .table) 3 ∷ []) → s ≡ firstShown p v
-unfolding answerOf cellsOf tabFrom
+    → s ≡ shownOf x (p .m) (p .n) (p .offsets) (nth (p .table) 0 ∷ nth (p .table) 1 ∷ nth (p .table) 2 ∷ nth (p .table) 3 ∷ []) → s ≡ firstShown p v
+unfolding shownOf cellsOf tabFrom
 first-is p zero x s h q e = e ∙ rw (q, h refl, zero-mul, zero-add)
 first-is p (suc v) x s h q e = e ∙ rw q
 
 -- ---- the checker's answer, as a number
-module _ (m : ℕ) (ts : List Task) (t : List ℕ) (r : Verdict) (told : toldOf r ≡ check m ts t) where
+module _ (m : ℕ) (ts : List Task) (t : List ℕ) (r : Verdict) (told : checkedAs r ≡ check m ts t) where
   -- the table is valid
   pub told-valid : r ≡ Valid → 0 ≡ startRefusal m ts t
-  unfolding toldOf
-  told-valid e = sym (ap (λ v. checkRefusal (toldOf v)) e) ∙ ap checkRefusal told
+  unfolding checkedAs
+  told-valid e = sym (ap (λ v. checkRefusal (checkedAs v)) e) ∙ ap checkRefusal told
 
   -- a cell is faulty
   pub told-cell : {s j k : ℕ} → r ≡ Cell s j k → 11 ≡ startRefusal m ts t
-  unfolding toldOf
-  told-cell e = sym (ap (λ v. checkRefusal (toldOf v)) e) ∙ ap checkRefusal told
+  unfolding checkedAs
+  told-cell e = sym (ap (λ v. checkRefusal (checkedAs v)) e) ∙ ap checkRefusal told
 
   -- a job is faulty
   pub told-job : {i k x : ℕ} → r ≡ Job i k x → 11 ≡ startRefusal m ts t
-  unfolding toldOf
-  told-job e = sym (ap (λ v. checkRefusal (toldOf v)) e) ∙ ap checkRefusal told
+  unfolding checkedAs
+  told-job e = sym (ap (λ v. checkRefusal (checkedAs v)) e) ∙ ap checkRefusal told
 
   -- the problem or the table's length is refused
   pub told-refused : {k : ℕ} → r ≡ Told k → k ≡ startRefusal m ts t
-  unfolding toldOf
-  told-refused e = sym (ap (λ v. checkRefusal (toldOf v)) e) ∙ ap checkRefusal told
+  unfolding checkedAs
+  told-refused e = sym (ap (λ v. checkRefusal (checkedAs v)) e) ∙ ap checkRefusal told

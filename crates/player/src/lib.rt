@@ -54,7 +54,7 @@ pub fn step(p: &mut Player, tick: u32) -> Shown
     p.last = next.last;
     p.position = next.position.0;
     p.age = next.age.0;
-    clock::answer(next, p.m, p.n, p.offsets, a, b, c, d)
+    clock::show(next, p.m, p.n, p.offsets, a, b, c, d)
 }
 
 // The offsets of a list; unused ones are 0.
@@ -145,7 +145,7 @@ fn first_shown(p: Player, verdict: u8) -> Shown
     let offsets = p.offsets;
     let table = p.table;
     let next = clock::stays(p.last, Slots(p.position), Slots(p.age), verdict);
-    clock::answer(
+    clock::show(
         next,
         p.m,
         p.n,

@@ -15,10 +15,10 @@ use Rattle.rules.specs.Right.{empty, starts, Clean, Passes}
 
 module _ {R : Rule} {vs : List ℕ} where
   -- one more cell in front
-  passes-cons : {l : ℕ} {p s : List ℕ} {v : ℕ} → T (R .closes p) → In v vs → T (R .tried p v) → Passes R vs l (p ++ v ∷ []) s → Passes R vs (suc l) p (v ∷ s)
+  passes-cons : {l : ℕ} {p s : List ℕ} {v : ℕ} → T (R .goesOn p) → In v vs → T (R .tried p v) → Passes R vs l (p ++ v ∷ []) s → Passes R vs (suc l) p (v ∷ s)
   passes-cons {l} {p} {s} {v} h m t g = record { size = ap suc (g .size); goes = goes; known = known; tried = tried }
     where
-      goes : (c : ℕ) → c ≤ suc l → T (R .closes (p ++ take c (v ∷ s)))
+      goes : (c : ℕ) → c ≤ suc l → T (R .goesOn (p ++ take c (v ∷ s)))
       goes zero i = rw append-nil h
       goes (suc c) i = rw append-snoc at (g .goes c (le-of-suc-le-suc i))
 

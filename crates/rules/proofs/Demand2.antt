@@ -15,7 +15,7 @@ use Rattle.table.specs.Table.{cells, Table}
 use Rattle.rules.specs.Walk.{Result, found, none, tries, ended, stopped, limited}
 use Rattle.rules.specs.Rules.{values, rank, plain}
 use Rattle.rules.specs.Right.{Clean, First, Right, first, nowhere}
-use Rattle.rules.specs.Search.{walked, Searched, told, search}
+use Rattle.rules.specs.Search.{walked, Searched, searchTold, search}
 use Rattle.rules.proofs.Limit.{within, past}
 use Rattle.rules.proofs.Skip.{quicker-right}
 use Rattle.rules.proofs.Plain.{clean-table, table-clean, plain-right}
@@ -25,7 +25,7 @@ use Rattle.rules.proofs.Told.{over-take, over-drop, zeros-take, zeros-d
 
 -- ---- statements
 -- the walks of an instance
-pub record Walks (P : Instance) : Type 0 where
+pub record WalksRight (P : Instance) : Type 0 where
   -- the plain rule lets a table pass exactly if it is a valid table
   pub plain-passes : (t : List ℕ) → Clean (plain P) (values P) (cells P) [] t ↔ Table P t
   -- each engine's walk finds the first valid table, or there is none
@@ -54,7 +54,7 @@ pub record Searches (P : Instance) (r : Result) (b : ℕ) (buffer : List ℕ) (s
 
 -- ---- proofs
 -- the walks of every regular instance
-pub walks : (P : Instance) → Regular P → Walks P
+pub walks : (P : Instance) → Regular P → WalksRight P
 walks P regular = record { plain-passes = λ t. (clean-table P regular t, table-clean P regular t); walked-right = right }
   where
     right : (e : ℕ) → Right (rank P) (Table P) (walked e P)
@@ -63,8 +63,8 @@ walks P regular = record { plain-passes = λ t. (clean-table P regular t, table-
 
 module _ (P : Instance) (b : ℕ) (buffer : List ℕ) where
   -- a walk past the limit
-  stopped-searches : (r : Result) → b < tries r → Searches P r b buffer (told (cells P) buffer (stopped b))
-  unfolding told
+  stopped-searches : (r : Result) → b < tries r → Searches P r b buffer (searchTold (cells P) buffer (stopped b))
+  unfolding searchTold
   stopped-searches r l = record {
     one-of-three = inr (inr refl);
     finds = (λ e. absurd (omega arith), λ x. absurd (omega arith));
@@ -78,8 +78,8 @@ module _ (P : Instance) (b : ℕ) (buffer : List ℕ) where
   }
 
   -- a walk within the limit
-  ended-searches : (r : Result) → Right (rank P) (Table P) r → tries r ≤ b → Searches P r b buffer (told (cells P) buffer (ended r))
-  unfolding told
+  ended-searches : (r : Result) → Right (rank P) (Table P) r → tries r ≤ b → Searches P r b buffer (searchTold (cells P) buffer (ended r))
+  unfolding searchTold
   ended-searches (found t k) (first h) l = record {
     one-of-three = inl refl;
     finds = (λ e. ((t, h .0), l), λ x. refl);
@@ -104,7 +104,7 @@ module _ (P : Instance) (b : ℕ) (buffer : List ℕ) where
   }
 
   -- what a right walk under a limit is told as
-  told-searches : (r : Result) → Right (rank P) (Table P) r → Searches P r b buffer (told (cells P) buffer (limited b r))
+  told-searches : (r : Result) → Right (rank P) (Table P) r → Searches P r b buffer (searchTold (cells P) buffer (limited b r))
   told-searches r h = ⊎-elim (λ l. rw (past b r l) (stopped-searches r l)) (λ l. rw (within b r l) (ended-searches r h l)) (lt-or-ge b (tries r))
 
 -- the search of every sound list, by either engine, with any limit, into a buffer that is long enough

@@ -8,7 +8,7 @@ use mathlib.Core.Bool.{Bool, true, false}
 use mathlib.Core.List.{List, [], _∷_, _++_}
 use lib.Dec.{T}
 use Rattle.laws.specs.Order.{In, Before, Rising, last, next}
-use Rattle.rules.specs.Walk.{Rule, Result, spend, gate, orElse, tryAll, walk}
+use Rattle.rules.specs.Walk.{Rule, Result, spend, gated, orElse, tryAll, walk}
 use Rattle.rules.specs.Right.{empty, Starts, starts, Clean, Right, first, nowhere}
 
 -- what starts with a value of vs starts with v or a value of vs
@@ -27,7 +27,7 @@ module _ {rank : ℕ → ℕ} where
   spend-right c (nowhere h) = nowhere h
 
   -- a test before the answer is a condition on the tables
-  gate-right : {G : List ℕ → Type 0} (b : Bool) {r : Result} → Right rank G r → Right rank (λ s. T b × G s) (gate b r)
+  gate-right : {G : List ℕ → Type 0} (b : Bool) {r : Result} → Right rank G r → Right rank (λ s. T b × G s) (gated b r)
   gate-right true (first (g, h)) = first ((tt, g), λ t x. h t (x .1))
   gate-right true (nowhere h) = nowhere (λ t x. h t (x .1))
   gate-right false h = nowhere (λ t x. x .0)
@@ -60,6 +60,6 @@ module _ {rank : ℕ → ℕ} where
   -- the walk's verdict is right: sound, complete and first
   pub walk-right : (R : Rule) {vs : List ℕ} → Rising rank vs → (l : ℕ) (p : List ℕ) → Right rank (Clean R vs l p) (walk R vs l p)
   unfolding walk
-  walk-right R up zero p = gate-right (R .closes p) (first (empty, λ t x. elim x [ empty ↦ λ b. b ]))
-  walk-right R up (suc l) p = gate-right (R .closes p) (tryAll-right up
+  walk-right R up zero p = gate-right (R .goesOn p) (first (empty, λ t x. elim x [ empty ↦ λ b. b ]))
+  walk-right R up (suc l) p = gate-right (R .goesOn p) (tryAll-right up
       (λ v. gate-right (R .tried p v) (spend-right (R .cost p v) (walk-right R up l (p ++ v ∷ [])))))

@@ -8,7 +8,7 @@ use mathlib.Core.Bool.{Bool, true, false, not}
 use mathlib.Core.List.{List, [], _∷_, _++_}
 use lib.Dec.{T, leb, leb→le, nleb→lt}
 use borrow.Author.Tests.{le-leb, lt-leb}
-use Rattle.rules.specs.Walk.{Rule, Result, found, none, tries, spend, gate, orElse, tryAll, walk, Answer, ended, stopped, cap, limited}
+use Rattle.rules.specs.Walk.{Rule, Result, found, none, tries, spend, gated, orElse, tryAll, walk, Outcome, ended, stopped, cap, limited}
 use Rattle.rules.specs.Limit.{allow, bgate, bnext, btryAll, bwalk}
 
 -- the tries of a result with more tries
@@ -35,7 +35,7 @@ pub past : (b : ℕ) (r : Result) → b < tries r → limited b r ≡ stopped b
 past b r h = rw (lt-leb (tries r) b h)
 
 -- f, told the tries used, gives what the limit makes of r with those tries before it
-record Meets (b : ℕ) (f : ℕ → Answer) (r : Result) : Type 0 where
+record Meets (b : ℕ) (f : ℕ → Outcome) (r : Result) : Type 0 where
   at : (u : ℕ) → u ≤ b → f u ≡ limited b (spend u r)
 
 module _ {b : ℕ} where
@@ -48,12 +48,12 @@ module _ {b : ℕ} where
   none-meets = record { at = λ u l. rw add-zero (sym (within b (none u) l)) }
 
   -- a test
-  gate-meets : (x : Bool) {f : ℕ → Answer} {r : Result} → Meets b f r → Meets b (bgate x f) (gate x r)
+  gate-meets : (x : Bool) {f : ℕ → Outcome} {r : Result} → Meets b f r → Meets b (bgate x f) (gated x r)
   gate-meets true h = h
   gate-meets false h = none-meets
 
   -- tries that are held to the limit
-  allow-meets : (c : ℕ) {f : ℕ → Answer} {r : Result} → Meets b f r → Meets b (λ u. allow (leb (u + c) b) b (u + c) f) (spend c r)
+  allow-meets : (c : ℕ) {f : ℕ → Outcome} {r : Result} → Meets b f r → Meets b (λ u. allow (leb (u + c) b) b (u + c) f) (spend c r)
   allow-meets c {f} {r} h = record { at = λ u l. go u (leb (u + c) b) (leb→le (u + c) b) (nleb→lt (u + c) b) }
     where
       go : (u : ℕ) (x : Bool) → (T x → u + c ≤ b) → (T (not x) → b < u + c) → allow x b (u + c) f ≡ limited b (spend u (spend c r))
@@ -61,7 +61,7 @@ module _ {b : ℕ} where
       go u false le lt = sym (past b (spend u (spend c r)) (rw spend-spend (rw tries-spend (omega (arith, lt tt)))))
 
   -- one value, then the others
-  next-meets : (v : ℕ) {f g : ℕ → Answer} (r : Result) {q : Result} → Meets b f r → Meets b g q → Meets b (λ u. bnext v (f u) g) (orElse v r q)
+  next-meets : (v : ℕ) {f g : ℕ → Outcome} (r : Result) {q : Result} → Meets b f r → Meets b g q → Meets b (λ u. bnext v (f u) g) (orElse v r q)
   next-meets v {f} {g} (found s k) {q} hf hg = record { at = λ u l. rw (hf .at u l) (go u (leb (u + k) b)) }
     where
       go : (u : ℕ) (x : Bool) → bnext v (cap x b (found s (u + k))) g ≡ cap x b (found (v ∷ s) (u + k))
@@ -74,15 +74,15 @@ module _ {b : ℕ} where
       go u false = refl
 
   -- all values
-  tryAll-meets : {f : ℕ → ℕ → Answer} {r : ℕ → Result} (vs : List ℕ) → ((v : ℕ) → Meets b (f v) (r v)) → Meets b (btryAll f vs) (tryAll r vs)
+  tryAll-meets : {f : ℕ → ℕ → Outcome} {r : ℕ → Result} (vs : List ℕ) → ((v : ℕ) → Meets b (f v) (r v)) → Meets b (btryAll f vs) (tryAll r vs)
   tryAll-meets [] h = none-meets
   tryAll-meets {r = r} (v ∷ vs) h = next-meets v (r v) (h v) (tryAll-meets vs h)
 
   -- the walk under the limit, with tries used before it
   walk-meets : (R : Rule) (vs : List ℕ) (l : ℕ) (p : List ℕ) → Meets b (bwalk b R vs l p) (walk R vs l p)
   unfolding walk bwalk
-  walk-meets R vs zero p = gate-meets (R .closes p) (found-meets [])
-  walk-meets R vs (suc l) p = gate-meets (R .closes p) (tryAll-meets vs
+  walk-meets R vs zero p = gate-meets (R .goesOn p) (found-meets [])
+  walk-meets R vs (suc l) p = gate-meets (R .goesOn p) (tryAll-meets vs
       (λ v. gate-meets (R .tried p v) (allow-meets (R .cost p v) (walk-meets R vs l (p ++ v ∷ [])))))
 
 -- with u tries used before it, the walk under a limit gives what the limit makes of u and the walk's tries

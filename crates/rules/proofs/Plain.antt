@@ -23,7 +23,7 @@ use Rattle.table.specs.Table.{cells, slotOf, coreOf, share, done, workLeft, Val
 use Rattle.table.proofs.JobLaws.{slot-job, end-there}
 use Rattle.table.proofs.ShareLaws.{share-own, share-job, share-some}
 use Rattle.table.proofs.TableLaws.{slot-there, done-same, free-same, make-free, free-apart, done-end}
-use Rattle.rules.specs.Rules.{tests, permitted, settled, closed, plain, values, rank}
+use Rattle.rules.specs.Rules.{tests, permitted, settled, allSettled, plain, values, rank}
 use Rattle.rules.specs.Right.{Clean, Passes, Right}
 use Rattle.rules.specs.Search.{walked}
 use Rattle.rules.proofs.First.{right-same, walk-right}
@@ -35,7 +35,7 @@ values-rising P = upTo-rising (P .tasks) (P .tasks) 0 (zero-add (P .tasks))
 
 -- the plain rule lets each cell of a table pass
 pub record Walked (P : Instance) (f : ℕ → ℕ) : Type 0 where
-  pub goes : (c : ℕ) → c ≤ cells P → T (closed P c f)
+  pub goes : (c : ℕ) → c ≤ cells P → T (allSettled P c f)
   pub tried : (c : ℕ) → c < cells P → T (permitted P c f (f c))
 
 module _ (P : Instance) (c : ℕ) (f : ℕ → ℕ) where
@@ -52,17 +52,17 @@ module _ (P : Instance) (c : ℕ) (f : ℕ → ℕ) where
   permitted-holds (suc v) x t = every-holds (tests P c f (suc v)) t
 
   -- where the walk goes on at cell c, the jobs whose highest-numbered slot ends there have no work left
-  closed-settled : T (closed P c f) → (i k : ℕ) → suc (jobEnd P i k) * P .cores ≡ c → i ≢ 0 → i ≤ P .tasks → k < P .jobs i → workLeft P c f i k ≡ 0
-  unfolding closed settled
-  closed-settled t zero k e x l j = absurd (x refl)
-  closed-settled t (suc i) k e x l j = eqb→eq (workLeft P c f (suc i) k) 0
+  all-settled-job : T (allSettled P c f) → (i k : ℕ) → suc (jobEnd P i k) * P .cores ≡ c → i ≢ 0 → i ≤ P .tasks → k < P .jobs i → workLeft P c f i k ≡ 0
+  unfolding allSettled settled
+  all-settled-job t zero k e x l j = absurd (x refl)
+  all-settled-job t (suc i) k e x l j = eqb→eq (workLeft P c f (suc i) k) 0
       (imp-use (eqb (suc (jobEnd P (suc i) k) * P .cores) c) (eqb (workLeft P c f (suc i) k) 0)
       (all-at (P .jobs (suc i)) (settled P c f (suc i)) (all-at (P .tasks) _ t i l) k j) (rw (eq-eqb (suc (jobEnd P (suc i) k) * P .cores) c e) tt))
 
   -- and the other way
-  make-closed : ((i k : ℕ) → suc (jobEnd P i k) * P .cores ≡ c → i ≢ 0 → i ≤ P .tasks → k < P .jobs i → workLeft P c f i k ≡ 0) → T (closed P c f)
-  unfolding closed settled
-  make-closed h = at-all (P .tasks) _ (λ i l. at-all (P .jobs (suc i)) _ (λ k j.
+  make-settled : ((i k : ℕ) → suc (jobEnd P i k) * P .cores ≡ c → i ≢ 0 → i ≤ P .tasks → k < P .jobs i → workLeft P c f i k ≡ 0) → T (allSettled P c f)
+  unfolding allSettled settled
+  make-settled h = at-all (P .tasks) _ (λ i l. at-all (P .jobs (suc i)) _ (λ k j.
       imp-make (eqb (suc (jobEnd P (suc i) k) * P .cores) c) (eqb (workLeft P c f (suc i) k) 0)
       (λ s. rw (eq-eqb (workLeft P c f (suc i) k) 0 (h (suc i) k (eqb→eq (suc (jobEnd P (suc i) k) * P .cores) c s) (omega arith) l j)) tt)))
 
@@ -125,7 +125,7 @@ module _ (P : Instance) (regular : Regular P) (f : ℕ → ℕ) where
           arith,
           never-over i k x (cells P) (omega arith),
           done-end P regular f i k,
-          closed-settled P (suc (jobEnd P i k) * P .cores) f
+          all-settled-job P (suc (jobEnd P i k) * P .cores) f
               (w .goes (suc (jobEnd P i k) * P .cores) (mul-le-mul-right (P .cores) (end-there P i regular k))) i k refl x l j,
         )
 
@@ -143,7 +143,7 @@ module _ (P : Instance) (regular : Regular P) (f : ℕ → ℕ) where
   pub valid-walked : Valid P f → Walked P f
   unfolding tests
   valid-walked v = record {
-    goes = λ c l. make-closed P c f (λ i k e x n j. omega (arith, ap (λ d. done P d f i k) e, done-end P regular f i k, v .full i k x n j));
+    goes = λ c l. make-settled P c f (λ i k e x n j. omega (arith, ap (λ d. done P d f i k) e, done-end P regular f i k, v .full i k x n j));
     tried = λ c l. make-permitted P c f (f c) (λ x. (
       le→leb (f c) (P .tasks) (v .known c l),
       (
@@ -168,9 +168,9 @@ module _ (P : Instance) (c : ℕ) (f g : ℕ → ℕ) (same : (d : ℕ) → d < 
   permitted-same (suc v) = rw (done-same P c f g same (suc v) (P .job (suc v) (slotOf P c)), free-same P c f g same (suc v))
 
   -- whether the walk goes on
-  pub closed-same : closed P c f ≡ closed P c g
-  unfolding closed settled
-  closed-same = all-same (P .tasks) _ _ (λ i l. all-same (P .jobs (suc i)) _ _ (λ k j. rw (done-same P c f g same (suc i) k)))
+  pub settled-same : allSettled P c f ≡ allSettled P c g
+  unfolding allSettled settled
+  settled-same = all-same (P .tasks) _ _ (λ i l. all-same (P .jobs (suc i)) _ _ (λ k j. rw (done-same P c f g same (suc i) k)))
 
 module _ (P : Instance) (c : ℕ) (t : List ℕ) (l : c ≤ length t) where
   -- the rule at a prefix of a table is the rule at the table's cells
@@ -178,8 +178,8 @@ module _ (P : Instance) (c : ℕ) (t : List ℕ) (l : c ≤ length t) where
   prefix-permitted v = rw (length-take-le c t l) (permitted-same P c (nth (take c t)) (nth t) (λ d i. getD-take c t d 0 i) v)
 
   -- and so is whether the walk goes on
-  pub prefix-closed : closed P (length (take c t)) (nth (take c t)) ≡ closed P c (nth t)
-  prefix-closed = rw (length-take-le c t l) (closed-same P c (nth (take c t)) (nth t) (λ d i. getD-take c t d 0 i))
+  pub prefix-settled : allSettled P (length (take c t)) (nth (take c t)) ≡ allSettled P c (nth t)
+  prefix-settled = rw (length-take-le c t l) (settled-same P c (nth (take c t)) (nth t) (λ d i. getD-take c t d 0 i))
 
 module _ (P : Instance) (regular : Regular P) (t : List ℕ) where
   -- a table that the plain rule lets pass is valid
@@ -187,7 +187,7 @@ module _ (P : Instance) (regular : Regular P) (t : List ℕ) where
   clean-table h = record {
     size = p .size;
     valid = walked-valid P regular (nth t) (record {
-      goes = λ c l. rw (prefix-closed P c t (omega (arith, p .size))) at (p .goes c l);
+      goes = λ c l. rw (prefix-settled P c t (omega (arith, p .size))) at (p .goes c l);
       tried = λ c l. rw (prefix-permitted P c t (omega (arith, p .size)) (nth t c)) at (p .tried c l);
     });
   }
@@ -199,7 +199,7 @@ module _ (P : Instance) (regular : Regular P) (t : List ℕ) where
   pub table-clean : Table P t → Clean (plain P) (values P) (cells P) [] t
   table-clean h = passes-clean (cells P) [] t (record {
     size = h .size;
-    goes = λ c l. rw (prefix-closed P c t (omega arith)) (w .goes c l);
+    goes = λ c l. rw (prefix-settled P c t (omega arith)) (w .goes c l);
     known = λ c l. in-upTo (P .tasks) 1 (nth t c) (elim (ℕ-discrete (nth t c) 0) [ yes e ↦ inl e | no x ↦ inr (omega (arith, h .valid .known c l)) ]);
     tried = λ c l. rw (prefix-permitted P c t (omega arith) (nth t c)) (w .tried c l);
   })

@@ -167,7 +167,7 @@ quick-stricter : (P : Instance) → Stricter (quick P) (plain P)
 unfolding quickly
 quick-stricter P = record {
   tried = λ p u t. every-holds (permitted P (length p) (nth p) u ∷ ruleA P (length p) (nth p) u ∷ ruleB P (length p) (nth p) u ∷ []) t .0;
-  closes = λ p t. t;
+  goesOn = λ p t. t;
   cost = λ p u. le-refl 1;
 }
 

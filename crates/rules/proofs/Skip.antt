@@ -8,7 +8,7 @@ use mathlib.Core.Bool.{Bool, true, false}
 use mathlib.Core.List.{List, [], _∷_, _++_}
 use lib.Dec.{T}
 use Rattle.laws.specs.Order.{Rising}
-use Rattle.rules.specs.Walk.{Rule, Result, found, none, spend, gate, orElse, tryAll, walk}
+use Rattle.rules.specs.Walk.{Rule, Result, found, none, spend, gated, orElse, tryAll, walk}
 use Rattle.rules.specs.Right.{Starts, starts, Clean, First, Right, first, nowhere, Stricter, Quicker}
 use Rattle.rules.proofs.First.{walk-right}
 
@@ -25,7 +25,7 @@ spend-follows l (both-found h) = both-found (add-le-add l h)
 spend-follows l (hidden h) = hidden h
 
 -- a stricter test on the one side
-gate-follows : {Q : List ℕ → Type 0} (b b' : Bool) {r r' : Result} → (T b' → T b) → Follows Q r r' → Follows (λ s. T b' × Q s) (gate b r) (gate b' r')
+gate-follows : {Q : List ℕ → Type 0} (b b' : Bool) {r r' : Result} → (T b' → T b) → Follows Q r r' → Follows (λ s. T b' × Q s) (gated b r) (gated b' r')
 gate-follows true true i (both-none h) = both-none h
 gate-follows true true i (both-found h) = both-found h
 gate-follows true true i (hidden h) = hidden (λ x. h (x .1))
@@ -55,8 +55,8 @@ tryAll-follows (w ∷ ws) h = orElse-follows w (h w) (tryAll-follows ws h)
 -- the walk by the stricter rule agrees, unless the other found a table that the stricter rule does not let pass
 walk-follows : {R' R : Rule} → Stricter R' R → (vs : List ℕ) (l : ℕ) (p : List ℕ) → Follows (Clean R' vs l p) (walk R vs l p) (walk R' vs l p)
 unfolding walk
-walk-follows {R'} {R} st vs zero p = gate-follows (R .closes p) (R' .closes p) (st .closes p) (both-found zero-le)
-walk-follows {R'} {R} st vs (suc l) p = gate-follows (R .closes p) (R' .closes p) (st .closes p) (tryAll-follows vs
+walk-follows {R'} {R} st vs zero p = gate-follows (R .goesOn p) (R' .goesOn p) (st .goesOn p) (both-found zero-le)
+walk-follows {R'} {R} st vs (suc l) p = gate-follows (R .goesOn p) (R' .goesOn p) (st .goesOn p) (tryAll-follows vs
     (λ v. gate-follows (R .tried p v) (R' .tried p v) (st .tried p v) (spend-follows (st .cost p v) (walk-follows st vs l (p ++ v ∷ [])))))
 
 -- a right answer that is not hidden is given by the one who follows

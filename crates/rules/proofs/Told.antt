@@ -14,7 +14,7 @@ use Rattle.tasks.specs.Instance.{ownInstance, Regular}
 use Rattle.tasks.proofs.SoundLaws.{sound-list, length-whole, instance-regular}
 use Rattle.table.specs.Table.{cells}
 use Rattle.rules.specs.Walk.{limited}
-use Rattle.rules.specs.Search.{Searched, walked, told, toldUnless, searchRefusal, search}
+use Rattle.rules.specs.Search.{Searched, walked, searchTold, searchToldUnless, searchRefusal, search}
 
 -- n cells written over the start of a buffer
 pub over-take : (n : ℕ) (s t : List ℕ) → length s ≡ n → take n (over s t) ≡ s
@@ -36,7 +36,7 @@ zeros-drop n t = over-drop n (replicate n 0) t (length-replicate n 0)
 
 -- where nothing is refused the search tells its walk under the limit
 pub search-told : (m : ℕ) (ts : List Task) (e b : ℕ) (buffer : List ℕ) → refusal m ts ≡ 0 → e ≤ 1 → cells (ownInstance m ts) ≤ length buffer
-    → search m ts e b buffer ≡ told (cells (ownInstance m ts)) buffer (limited b (walked e (ownInstance m ts)))
+    → search m ts e b buffer ≡ searchTold (cells (ownInstance m ts)) buffer (limited b (walked e (ownInstance m ts)))
 unfolding search searchRefusal unless orNext
 search-told m ts e b buffer sound engine room = rw (sound, le-leb e 1 engine, le-leb (cells (ownInstance m ts)) (length buffer) room)
 
@@ -46,7 +46,7 @@ pub refused-told : (m : ℕ) (ts : List Task) (e b : ℕ) (buffer : List ℕ) (k
 unfolding search
 refused-told m ts e b buffer k h x = rw h (go k _ x)
   where
-    go : (k : ℕ) (s : Searched) → k ≢ 0 → toldUnless k buffer s ≡ record { verdict = k; tries = 0; buffer = buffer }
+    go : (k : ℕ) (s : Searched) → k ≢ 0 → searchToldUnless k buffer s ≡ record { verdict = k; tries = 0; buffer = buffer }
     go zero s x = absurd (x refl)
     go (suc k) s x = refl
 

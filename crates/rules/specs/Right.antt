@@ -19,13 +19,13 @@ pub data Starts (vs : List ℕ) (G : ℕ → List ℕ → Type 0) : List ℕ →
 
 -- s fills the l cells behind p, and the rule lets each of them pass
 abbrev pub Clean : Rule → List ℕ → ℕ → List ℕ → List ℕ → Type 0
-Clean R vs zero p s = T (R .closes p) × Empty s
-Clean R vs (suc l) p s = T (R .closes p) × Starts vs (λ v r. T (R .tried p v) × Clean R vs l (p ++ v ∷ []) r) s
+Clean R vs zero p s = T (R .goesOn p) × Empty s
+Clean R vs (suc l) p s = T (R .goesOn p) × Starts vs (λ v r. T (R .tried p v) × Clean R vs l (p ++ v ∷ []) r) s
 
 -- the same, cell by cell
 pub record Passes (R : Rule) (vs : List ℕ) (l : ℕ) (p s : List ℕ) : Type 0 where
   pub size : length s ≡ l
-  pub goes : (c : ℕ) → c ≤ l → T (R .closes (p ++ take c s))
+  pub goes : (c : ℕ) → c ≤ l → T (R .goesOn (p ++ take c s))
   pub known : (c : ℕ) → c < l → In (nth s c) vs
   pub tried : (c : ℕ) → c < l → T (R .tried (p ++ take c s) (nth s c))
 
@@ -41,7 +41,7 @@ pub data Right (rank : ℕ → ℕ) (G : List ℕ → Type 0) : Result → Type 
 -- R' tries no value, goes on past no prefix and counts no try that R does not
 pub record Stricter (R' R : Rule) : Type 0 where
   pub tried : (p : List ℕ) (v : ℕ) → T (R' .tried p v) → T (R .tried p v)
-  pub closes : (p : List ℕ) → T (R' .closes p) → T (R .closes p)
+  pub goesOn : (p : List ℕ) → T (R' .goesOn p) → T (R .goesOn p)
   pub cost : (p : List ℕ) (v : ℕ) → R' .cost p v ≤ R .cost p v
 
 -- r' has the verdict and the table of r, at no more tries

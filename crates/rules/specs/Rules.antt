@@ -36,12 +36,12 @@ unfoldable pub settled : Instance → ℕ → (ℕ → ℕ) → ℕ → ℕ → 
 settled P c f i k = imp (eqb (suc (jobEnd P i k) * P .cores) c) (eqb (workLeft P c f i k) 0)
 
 -- after the last core of a slot, each job whose highest-numbered slot this is must have no work left
-unfoldable pub closed : Instance → ℕ → (ℕ → ℕ) → Bool
-closed P c f = all (P .tasks) (λ i. all (P .jobs (suc i)) (settled P c f (suc i)))
+unfoldable pub allSettled : Instance → ℕ → (ℕ → ℕ) → Bool
+allSettled P c f = all (P .tasks) (λ i. all (P .jobs (suc i)) (settled P c f (suc i)))
 
 -- the plain walk (engine 0); one try is one permitted value put into one cell
 abbrev pub plain : Instance → Rule
-plain P = record { tried = λ p. permitted P (length p) (nth p); closes = λ p. closed P (length p) (nth p); cost = λ p v. 1 }
+plain P = record { tried = λ p. permitted P (length p) (nth p); goesOn = λ p. allSettled P (length p) (nth p); cost = λ p v. 1 }
 
 -- all positive rates of task i are equal
 unfoldable pub evenRates : Instance → ℕ → Bool
@@ -71,4 +71,4 @@ quickly P c f v = every (permitted P c f v ∷ ruleA P c f v ∷ ruleB P c f v �
 
 -- the quick walk, as a rule
 abbrev pub quick : Instance → Rule
-quick P = record { tried = λ p. quickly P (length p) (nth p); closes = plain P .closes; cost = λ p v. 1 }
+quick P = record { tried = λ p. quickly P (length p) (nth p); goesOn = plain P .goesOn; cost = λ p v. 1 }

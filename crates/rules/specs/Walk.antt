@@ -9,7 +9,7 @@ use lib.Dec.{leb}
 -- what a walk goes by, given the cells placed so far: which values are tried, where it goes on, what a try costs
 pub record Rule : Type 0 where
   pub tried : List ℕ → ℕ → Bool
-  pub closes : List ℕ → Bool
+  pub goesOn : List ℕ → Bool
   pub cost : List ℕ → ℕ → ℕ
 
 -- how a walk over the cells left ends: with those cells, or with none; and the tries that it took
@@ -33,9 +33,9 @@ spend c (found s k) = found s (c + k)
 spend c (none k) = none (c + k)
 
 -- a result behind a test: none, at no try, where the test fails
-abbrev pub gate : Bool → Result → Result
-gate true r = r
-gate false r = none 0
+abbrev pub gated : Bool → Result → Result
+gated true r = r
+gated false r = none 0
 
 -- the result below the value v and, if that is none, the result of the values after v
 abbrev pub orElse : ℕ → Result → Result → Result
@@ -49,19 +49,19 @@ tryAll f (v ∷ vs) = orElse v (f v) (tryAll f vs)
 
 -- the walk over the cells left, from the prefix p
 unfoldable pub walk : Rule → List ℕ → ℕ → List ℕ → Result
-walk R vs zero p = gate (R .closes p) (found [] 0)
-walk R vs (suc l) p = gate (R .closes p) (tryAll (λ v. gate (R .tried p v) (spend (R .cost p v) (walk R vs l (p ++ v ∷ [])))) vs)
+walk R vs zero p = gated (R .goesOn p) (found [] 0)
+walk R vs (suc l) p = gated (R .goesOn p) (tryAll (λ v. gated (R .tried p v) (spend (R .cost p v) (walk R vs l (p ++ v ∷ [])))) vs)
 
 -- how a walk under a limit ends: with its result, or stopped, and the tries used
-pub data Answer : Type 0 where
-  ended : Result → Answer
-  stopped : ℕ → Answer
+pub data Outcome : Type 0 where
+  ended : Result → Outcome
+  stopped : ℕ → Outcome
 
 -- a result that is within the limit of b tries, or not
-abbrev pub cap : Bool → ℕ → Result → Answer
+abbrev pub cap : Bool → ℕ → Result → Outcome
 cap true b r = ended r
 cap false b r = stopped b
 
 -- what a limit of b tries makes of a result
-abbrev pub limited : ℕ → Result → Answer
+abbrev pub limited : ℕ → Result → Outcome
 limited b r = cap (leb (tries r) b) b r

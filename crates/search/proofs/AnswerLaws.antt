@@ -18,10 +18,10 @@ use Rattle.tasks.specs.Refusal.{unless, tableLength, IsSound, testedAs, tested}
 use Rattle.tasks.specs.Instance.{instanceOf}
 use Rattle.tasks.proofs.SoundLaws.{sound-list}
 use Rattle.tasks.proofs.AnswerLaws.{or-first, or-next, tested-sound, tested-refused}
-use Rattle.rules.specs.Search.{Searched, toldUnless, searchRefusal, search}
+use Rattle.rules.specs.Search.{Searched, searchToldUnless, searchRefusal, search}
 use Rattle.rules.proofs.Told.{search-told}
 use Rattle.search.specs.declared.Answer.{Answer}
-use Rattle.search.specs.Told.{refusedBy, callRefusal, walkTold, toldOf}
+use Rattle.search.specs.Told.{refusedAnswer, callRefusal, walkTold, searchedAs}
 
 -- the cells of a sound list's table
 pub few-cells : (m : ℕ) (ts : List Task) (L : ℕ) → IsSound m ts → L ≡ tableLength ts → L * m ≤ 4096
@@ -57,22 +57,22 @@ module _ (e room n : ℕ) where
 
 module _ (m : ℕ) (ts : List Task) (e b : ℕ) (buffer : List ℕ) where
   -- a refusal
-  refused-by : (k : ℕ) (r : Answer) → r ≡ refusedBy k → k ≢ 0 → k ≡ searchRefusal m ts e (length buffer) → toldOf r buffer ≡ search m ts e b buffer
+  refused-by : (k : ℕ) (r : Answer) → r ≡ refusedAnswer k → k ≢ 0 → k ≡ searchRefusal m ts e (length buffer) → searchedAs r buffer ≡ search m ts e b buffer
   unfolding search
-  refused-by k r er x ek = ap (λ r. toldOf r buffer) er ∙ rw (← ek) (go k _ x)
+  refused-by k r er x ek = ap (λ r. searchedAs r buffer) er ∙ rw (← ek) (go k _ x)
     where
-      go : (k : ℕ) (s : Searched) → k ≢ 0 → toldOf (refusedBy k) buffer ≡ toldUnless k buffer s
+      go : (k : ℕ) (s : Searched) → k ≢ 0 → searchedAs (refusedAnswer k) buffer ≡ searchToldUnless k buffer s
       go zero s x = absurd (x refl)
       go (suc k) s x = refl
 
   -- of the list
-  pub list-refused : (k : ℕ) (r : Answer) (s : Soundness) → testedAs s ≡ tested m ts → s ≡ Refused k → r ≡ refusedBy k → toldOf r buffer ≡ search m ts e b buffer
+  pub list-refused : (k : ℕ) (r : Answer) (s : Soundness) → testedAs s ≡ tested m ts → s ≡ Refused k → r ≡ refusedAnswer k → searchedAs r buffer ≡ search m ts e b buffer
   unfolding searchRefusal
   list-refused k r s es ek er = let h = tested-refused m ts s es k ek in refused-by k r er (h .1) (or-first _ _ _ (h .0) (h .1))
 
   module _ (L : Slots) (s : Soundness) (es : testedAs s ≡ tested m ts) (el : s ≡ Sound L) (k : ℕ) (ek : k ≡ callRefusal e (length buffer) (L .0 * m)) where
     -- of the engine or of the buffer
-    pub call-refused : (r : Answer) → k ≢ 0 → r ≡ refusedBy k → toldOf r buffer ≡ search m ts e b buffer
+    pub call-refused : (r : Answer) → k ≢ 0 → r ≡ refusedAnswer k → searchedAs r buffer ≡ search m ts e b buffer
     unfolding searchRefusal callRefusal instanceOf
     call-refused r x er = let told = tested-sound m ts s es L el in refused-by k r er x (or-next _ _ _ _ refl (told .0) (rw (← told .1) ek))
 

@@ -9,16 +9,16 @@ use Rattle.tasks.specs.declared.TaskList.{TaskList}
 use Rattle.tasks.specs.Task.{rows}
 use Rattle.rules.specs.Search.{Searched, search}
 use Rattle.search.specs.declared.Answer.{Answer}
-use Rattle.search.specs.Told.{toldOf}
+use Rattle.search.specs.Told.{searchedAs}
 use Rattle.search.proofs.search as the-search
 
 -- what is told of an answer and a buffer tells them apart from all others
-pub told-only : {x : Searched} (r r′ : Answer) (t t′ : List ℕ) → toldOf r t ≡ x → toldOf r′ t′ ≡ x → (r ≡ r′) × (t ≡ t′)
+pub told-only : {x : Searched} (r r′ : Answer) (t t′ : List ℕ) → searchedAs r t ≡ x → searchedAs r′ t′ ≡ x → (r ≡ r′) × (t ≡ t′)
 told-only r r′ t t′ e e′ = let both = only e e′ in (λ i. record { verdict = both i .verdict; tries = both i .tries }, λ i. both i .buffer)
 
 -- ---- search: it finds the buffer t, answers r and leaves the buffer t′
 abbrev pub Search : TaskList → ℕ → ℕ → ℕ → List ℕ → Answer → List ℕ → Type 0
-Search list m e b t r t′ = toldOf r t′ ≡ search m (rows list) e b t
+Search list m e b t r t′ = searchedAs r t′ ≡ search m (rows list) e b t
 
 search-says : (κs list m engine limit table list′ m′ engine′ limit′ table′ r : _)
     → Says (λ M 𝓤 H A mem run. the-search.ensures-1 𝓤 H κs A mem run list m engine limit table list′ m′ engine′ limit′ table′ r)

@@ -23,26 +23,26 @@ use Rattle.tasks.proofs.SoundLaws.{SoundList, sound-list}
 use Rattle.table.specs.Table.{done}
 use Rattle.rules.specs.Walk as walks
 use Rattle.rules.specs.Walk.{Result, tries, spend, ended, cap, limited}
-use Rattle.rules.specs.Search.{walked, told}
-use Rattle.board.specs.Board.{coresOn, setsOn}
-use Rattle.walk.specs.Machine.{End, Found, Nothing, Stopped, packed, State, walkOn, firstOn, cellsLeft, full, Ran}
-use Rattle.board.specs.Ready.{counterOf, Ready, Lefts}
+use Rattle.rules.specs.Search.{walked, searchTold}
+use Rattle.grid.specs.Grid.{coresOn, setsOn}
+use Rattle.walk.specs.Machine.{End, Found, NoneFound, Stopped, walkNumber, State, walkOn, firstOn, cellsLeft, full, Ran}
+use Rattle.grid.specs.GridFor.{counterOf, GridFor, Lefts}
 use Rattle.walk.proofs.TurnLaws.{packed-nothing, packed-found, packed-stopped}
 use Rattle.walk.proofs.RefineLaws.{toldAt, Shows, shows-same, walk-limited}
 use Rattle.search.specs.declared.Answer.{Answer}
-use Rattle.fill.specs.Board.{boardOf}
-use Rattle.fill.proofs.BoardLaws.{is-task, instance-small, filled-ready}
-use Rattle.search.specs.Told.{workAt, leftOf, Walks, verdictOf, answerOf, cellLeft, walkTold, toldOf}
+use Rattle.fill.specs.Grid.{gridOf}
+use Rattle.fill.proofs.GridLaws.{is-task, instance-small, filled-ready}
+use Rattle.search.specs.Told.{workAt, leftOf, ListWalked, verdictOf, walkAnswer, cellLeft, walkTold, searchedAs}
 use Rattle.search.proofs.AnswerLaws.{few-cells}
 
 -- ---- tries counted from u on
 -- the tries of an answer
-abbrev used : walks.Answer → ℕ
+abbrev used : walks.Outcome → ℕ
 used (ended r) = tries r
 used (walks.stopped k) = k
 
 -- an answer with u tries less
-abbrev less : ℕ → walks.Answer → walks.Answer
+abbrev less : ℕ → walks.Outcome → walks.Outcome
 less u (ended (walks.found s k)) = ended (walks.found s (k - u))
 less u (ended (walks.none k)) = ended (walks.none (k - u))
 less u (walks.stopped k) = walks.stopped (k - u)
@@ -85,35 +85,35 @@ module _ (u b : ℕ) (r : Result) where
 
 -- ---- the walk's number
 -- the tries that it has
-packed-tries : (e : End) (k r : ℕ) → r ≡ packed e k → k < 4294967296 → r % 4294967296 ≡ k
-unfolding packed
+packed-tries : (e : End) (k r : ℕ) → r ≡ walkNumber e k → k < 4294967296 → r % 4294967296 ≡ k
+unfolding walkNumber
 packed-tries Found k r h l = omega arith
-packed-tries Nothing k r h l = omega arith
+packed-tries NoneFound k r h l = omega arith
 packed-tries Stopped k r h l = omega arith
 
 -- the tries of what an end tells
 told-used : (e : End) (n c : ℕ) (t : List ℕ) (k : ℕ) → used (toldAt e n c t k) ≡ k
 unfolding toldAt
 told-used Found n c t k = refl
-told-used Nothing n c t k = refl
+told-used NoneFound n c t k = refl
 told-used Stopped n c t k = refl
 
 -- the answer that its tests find, with the tries from u on
 module _ (u w : ℕ) where
   -- nothing
-  pub tells-none : w < 4294967296 → (e : End) (k : ℕ) → w ≡ packed e k → k < 4294967296 → record { verdict = 13; tries = w % 4294967296 - u } ≡ answerOf e k u
+  pub tells-none : w < 4294967296 → (e : End) (k : ℕ) → w ≡ walkNumber e k → k < 4294967296 → record { verdict = 13; tries = w % 4294967296 - u } ≡ walkAnswer e k u
   unfolding verdictOf
-  tells-none small e k h l = rw (packed-nothing e k w h small .0) (ap (λ k. answerOf Nothing k u) (packed-tries e k w h l))
+  tells-none small e k h l = rw (packed-nothing e k w h small .0) (ap (λ k. walkAnswer NoneFound k u) (packed-tries e k w h l))
 
   -- a table
-  pub tells-found : 4294967296 ≤ w → w < 8589934592 → (e : End) (k : ℕ) → w ≡ packed e k → k < 4294967296 → record { verdict = 0; tries = w % 4294967296 - u } ≡ answerOf e k u
+  pub tells-found : 4294967296 ≤ w → w < 8589934592 → (e : End) (k : ℕ) → w ≡ walkNumber e k → k < 4294967296 → record { verdict = 0; tries = w % 4294967296 - u } ≡ walkAnswer e k u
   unfolding verdictOf
-  tells-found big small e k h l = rw (packed-found e k w h l big small .0) (ap (λ k. answerOf Found k u) (packed-tries e k w h l))
+  tells-found big small e k h l = rw (packed-found e k w h l big small .0) (ap (λ k. walkAnswer Found k u) (packed-tries e k w h l))
 
   -- the limit
-  pub tells-stopped : 8589934592 ≤ w → (e : End) (k : ℕ) → w ≡ packed e k → k < 4294967296 → record { verdict = 14; tries = w % 4294967296 - u } ≡ answerOf e k u
+  pub tells-stopped : 8589934592 ≤ w → (e : End) (k : ℕ) → w ≡ walkNumber e k → k < 4294967296 → record { verdict = 14; tries = w % 4294967296 - u } ≡ walkAnswer e k u
   unfolding verdictOf
-  tells-stopped big e k h l = rw (packed-stopped e k w h l big .0) (ap (λ k. answerOf Stopped k u) (packed-tries e k w h l))
+  tells-stopped big e k h l = rw (packed-stopped e k w h l big .0) (ap (λ k. walkAnswer Stopped k u) (packed-tries e k w h l))
 
 -- the first n cells 0
 cleared : (n : ℕ) (buffer : List ℕ) → n ≤ length buffer → filled buffer 0 n (λ _. 0) ≡ over (replicate n 0) buffer
@@ -121,9 +121,9 @@ cleared n buffer room = filled-over n buffer (λ _. 0) room ∙ ap (λ s. over s
 
 -- the answer and the buffer are those of what an end tells, with u tries less
 told-end : (e : End) (n u k : ℕ) (t buffer : List ℕ) → n ≤ length t → n ≤ length buffer
-    → toldOf (answerOf e k u) (filled buffer 0 n (cellLeft (eqb (verdictOf e) 0) t)) ≡ told n buffer (less u (toldAt e n 0 t k))
-unfolding told toldAt verdictOf cellLeft
-told-end Nothing n u k t buffer long room = λ i. record { verdict = 13; tries = k - u; buffer = cleared n buffer room i }
+    → searchedAs (walkAnswer e k u) (filled buffer 0 n (cellLeft (eqb (verdictOf e) 0) t)) ≡ searchTold n buffer (less u (toldAt e n 0 t k))
+unfolding searchTold toldAt verdictOf cellLeft
+told-end NoneFound n u k t buffer long room = λ i. record { verdict = 13; tries = k - u; buffer = cleared n buffer room i }
 told-end Found n u k t buffer long room = λ i. record {
   verdict = 0;
   tries = k - u;
@@ -162,14 +162,14 @@ module _ {m : ℕ} (list : TaskList) (s : SoundList m (rows list)) where
           ∙ omega arith
 
 -- ---- a walk over the filled arrays
-pub filled-walks : (list : TaskList) (m e L u : ℕ) (t : List ℕ) (r : ℕ) (t′ board left l : List ℕ) → board ≡ boardOf list m e L (replicate 17763 0)
-    → left ≡ filled (replicate 32768 0) 0 16384 (workAt (list .work)) → Ran board 0 (setsOn board left 0) t left u r t′ l → Walks list m e L u t r t′
+pub filled-walks : (list : TaskList) (m e L u : ℕ) (t : List ℕ) (r : ℕ) (t′ grid left l : List ℕ) → grid ≡ gridOf list m e L (replicate 17763 0)
+    → left ≡ filled (replicate 32768 0) 0 16384 (workAt (list .work)) → Ran grid 0 (setsOn grid left 0) t left u r t′ l → ListWalked list m e L u t r t′
 unfolding leftOf
-filled-walks list m e L u t r t′ board left l eb el ran = record { left = l; ran = subst₂ (λ board left. Ran board 0 (setsOn board left 0) t left u r t′ l) eb el ran }
+filled-walks list m e L u t r t′ grid left l eb el ran = record { left = l; ran = subst₂ (λ grid left. Ran grid 0 (setsOn grid left 0) t left u r t′ l) eb el ran }
 
 -- ---- the walk on the filled arrays, from as many tries as leave b
 module _ (m : ℕ) (list : TaskList) (e b L : ℕ) (sound : IsSound m (rows list)) (eL : L ≡ tableLength (rows list)) (lb : b < 4294967296)
-    (board left : List ℕ) (eb : board ≡ boardOf list m e L (replicate 17763 0)) (el : left ≡ leftOf list) where
+    (grid left : List ℕ) (eb : grid ≡ gridOf list m e L (replicate 17763 0)) (el : left ≡ leftOf list) where
   -- what the list has
   sound-parts : SoundList m (rows list)
   sound-parts = sound-list m (rows list) sound
@@ -178,31 +178,31 @@ module _ (m : ℕ) (list : TaskList) (e b L : ℕ) (sound : IsSound m (rows list
   few : L * m ≤ 4096
   few = few-cells m (rows list) L sound eL
 
-  -- the board is the instance's
-  ready : Ready (ownInstance m (rows list)) e board
-  ready = filled-ready m list e L sound eL board eb
+  -- the grid is the instance's
+  ready : GridFor (ownInstance m (rows list)) e grid
+  ready = filled-ready m list e L sound eL grid eb
 
   -- and the walk goes over its cells
-  size : suc (cellsLeft board 0) ≡ tableLength (rows list) * m
+  size : suc (cellsLeft grid 0) ≡ tableLength (rows list) * m
   unfolding instanceOf
   size = omega (arith, ap₂ (λ a b. a * b) (ready .slots) (ready .cores), mul-pos (sound-parts .some-slot) (sound-parts .some-core))
 
   -- where it ends
   abbrev end : State
-  end = walkOn (suc (cellsLeft board 0)) board full (firstOn board 0) 0 0 (setsOn board left 0) (replicate 4096 0) left (full - b)
+  end = walkOn (suc (cellsLeft grid 0)) grid full (firstOn grid 0) 0 0 (setsOn grid left 0) (replicate 4096 0) left (full - b)
 
   -- what it tells there
   shows : Shows full (tableLength (rows list) * m) 0 (replicate 4096 0) left end (limited (full - b + b) (spend (full - b) (walked e (ownInstance m (rows list)))))
   unfolding instanceOf
-  shows = shows-same (ap₂ (λ k first. walkOn k board full first 0 0 (setsOn board left 0) (replicate 4096 0) left (full - b)) size (zero-mul (coresOn board)))
+  shows = shows-same (ap₂ (λ k first. walkOn k grid full first 0 0 (setsOn grid left 0) (replicate 4096 0) left (full - b)) size (zero-mul (coresOn grid)))
       (ap (λ k. limited k (spend (full - b) (walked e (ownInstance m (rows list))))) (omega arith))
-      (walk-limited (instance-small list sound-parts) e full board ready (replicate 4096 0) left
+      (walk-limited (instance-small list sound-parts) e full grid ready (replicate 4096 0) left
       (subst (Lefts (ownInstance m (rows list)) 0 (nth (replicate 4096 0))) (sym el) (lefts-start list sound-parts (replicate 4096 0)))
       (rw (length-replicate {A = ℕ} 4096 0) (omega (arith, few, ap (λ n. n * m) eL)))
       (ap length el ∙ left-length list)
       (full - b) (omega arith))
 
-  module _ (r : ℕ) (t l : List ℕ) (ran : Ran board 0 (setsOn board left 0) (replicate 4096 0) left (full - b) r t l) where
+  module _ (r : ℕ) (t l : List ℕ) (ran : Ran grid 0 (setsOn grid left 0) (replicate 4096 0) left (full - b) r t l) where
     -- it has counted up from there
     pub counted-up : full - b ≤ r % 4294967296
     counted-up = omega (arith, packed-tries (end .end) (end .tries) r (ran .leaves .answer) (omega (arith, ran .leaves .most)), more)
@@ -212,13 +212,13 @@ module _ (m : ℕ) (list : TaskList) (e b L : ℕ) (sound : IsSound m (rows list
             (limited-used (full - b) b (walked e (ownInstance m (rows list))))
 
     -- it tells what the engine's walk does under the limit
-    pub walk-told : (buffer : List ℕ) → L * m ≤ length buffer → (x : Answer) → ((e : End) (k : ℕ) → r ≡ packed e k → k < 4294967296 → x ≡ answerOf e k (full - b))
-        → (buffer′ : List ℕ) → buffer′ ≡ filled buffer 0 (L * m) (cellLeft (eqb (x .verdict) 0) t) → toldOf x buffer′ ≡ walkTold m (rows list) e b buffer
+    pub walk-told : (buffer : List ℕ) → L * m ≤ length buffer → (x : Answer) → ((e : End) (k : ℕ) → r ≡ walkNumber e k → k < 4294967296 → x ≡ walkAnswer e k (full - b))
+        → (buffer′ : List ℕ) → buffer′ ≡ filled buffer 0 (L * m) (cellLeft (eqb (x .verdict) 0) t) → searchedAs x buffer′ ≡ walkTold m (rows list) e b buffer
     unfolding walkTold instanceOf
     walk-told buffer room x tells buffer′ e′ =
         let ex = tells (end .end) (end .tries) (ran .leaves .answer) (omega (arith, ran .leaves .most)) in
-        ap₂ toldOf ex (e′ ∙ ap₂ (λ x t. filled buffer 0 (L * m) (cellLeft (eqb (x .verdict) 0) t)) ex (ran .leaves .table))
+        ap₂ searchedAs ex (e′ ∙ ap₂ (λ x t. filled buffer 0 (L * m) (cellLeft (eqb (x .verdict) 0) t)) ex (ran .leaves .table))
         ∙ told-end (end .end) (L * m) (full - b) (end .tries) (end .table) buffer (rw (shows .long) (rw (length-replicate {A = ℕ} 4096 0) few)) room
-        ∙ ap (λ k. told (k * m) buffer (less (full - b) (toldAt (end .end) (k * m) 0 (end .table) (end .tries)))) eL
-        ∙ ap (λ a. told (tableLength (rows list) * m) buffer (less (full - b) a)) (shows .answer)
-        ∙ ap (told (tableLength (rows list) * m) buffer) (limited-less (full - b) b (walked e (ownInstance m (rows list))))
+        ∙ ap (λ k. searchTold (k * m) buffer (less (full - b) (toldAt (end .end) (k * m) 0 (end .table) (end .tries)))) eL
+        ∙ ap (λ a. searchTold (tableLength (rows list) * m) buffer (less (full - b) a)) (shows .answer)
+        ∙ ap (searchTold (tableLength (rows list) * m) buffer) (limited-less (full - b) b (walked e (ownInstance m (rows list))))

@@ -12,10 +12,10 @@ use Rattle.tasks.specs.Refusal.{unless}
 use Rattle.tasks.specs.Instance.{ownInstance}
 use Rattle.table.specs.Table.{cells}
 use Rattle.rules.specs.Walk.{limited}
-use Rattle.rules.specs.Search.{Searched, walked, told}
-use Rattle.board.specs.Board.{setsOn}
-use Rattle.walk.specs.Machine.{End, Found, Nothing, Stopped, Ran}
-use Rattle.fill.specs.Board.{boardOf}
+use Rattle.rules.specs.Search.{Searched, walked, searchTold}
+use Rattle.grid.specs.Grid.{setsOn}
+use Rattle.walk.specs.Machine.{End, Found, NoneFound, Stopped, Ran}
+use Rattle.fill.specs.Grid.{gridOf}
 use Rattle.search.specs.declared.Answer.{Answer}
 
 -- the work of the job at a counter
@@ -26,28 +26,28 @@ workAt work x = nth work (x % 16)
 unfoldable pub leftOf : TaskList → List ℕ
 leftOf list = filled (replicate 32768 0) 0 16384 (workAt (list .work))
 
--- what a walk over the board and the counters of a list answers and leaves: from u tries and the cells t, the number r and the cells t′
-pub record Walks (list : TaskList) (m e L u : ℕ) (t : List ℕ) (r : ℕ) (t′ : List ℕ) : Type 0 where
+-- what a walk over the grid and the counters of a list answers and leaves: from u tries and the cells t, the number r and the cells t′
+pub record ListWalked (list : TaskList) (m e L u : ℕ) (t : List ℕ) (r : ℕ) (t′ : List ℕ) : Type 0 where
   pub left : List ℕ
-  pub ran : Ran (boardOf list m e L (replicate 17763 0)) 0 (setsOn (boardOf list m e L (replicate 17763 0)) (leftOf list) 0) t (leftOf list) u r t′ left
+  pub ran : Ran (gridOf list m e L (replicate 17763 0)) 0 (setsOn (gridOf list m e L (replicate 17763 0)) (leftOf list) 0) t (leftOf list) u r t′ left
 
 -- the verdict of a walk that ends so
 unfoldable pub verdictOf : End → ℕ
 verdictOf Found = 0
-verdictOf Nothing = 13
+verdictOf NoneFound = 13
 verdictOf Stopped = 14
 
 -- the answer of a walk that ends so with k tries, counted from u on
-abbrev pub answerOf : End → ℕ → ℕ → Answer
-answerOf e k u = record { verdict = verdictOf e; tries = k - u }
+abbrev pub walkAnswer : End → ℕ → ℕ → Answer
+walkAnswer e k u = record { verdict = verdictOf e; tries = k - u }
 
 -- what is left in cell i of the caller's buffer: the table's, if one was found, else 0
 unfoldable pub cellLeft : Bool → List ℕ → ℕ → ℕ
 cellLeft found t i = cond found (nth t i) 0
 
 -- a refusal reports 0 tries
-abbrev pub refusedBy : ℕ → Answer
-refusedBy r = record { verdict = r; tries = 0 }
+abbrev pub refusedAnswer : ℕ → Answer
+refusedAnswer r = record { verdict = r; tries = 0 }
 
 -- after 1 to 8: 9 engine not 0 or 1; 10 buffer without room for n cells
 unfoldable pub callRefusal : ℕ → ℕ → ℕ → ℕ
@@ -55,8 +55,8 @@ callRefusal e room n = unless (leb e 1) 9 (unless (leb n room) 10 0)
 
 -- what the search tells where nothing is refused
 unfoldable pub walkTold : ℕ → List Task → ℕ → ℕ → List ℕ → Searched
-walkTold m ts e b buffer = told (cells (ownInstance m ts)) buffer (limited b (walked e (ownInstance m ts)))
+walkTold m ts e b buffer = searchTold (cells (ownInstance m ts)) buffer (limited b (walked e (ownInstance m ts)))
 
 -- the answer and the buffer, as the definition has them
-abbrev pub toldOf : Answer → List ℕ → Searched
-toldOf r t = record { verdict = r .verdict; tries = r .tries; buffer = t }
+abbrev pub searchedAs : Answer → List ℕ → Searched
+searchedAs r t = record { verdict = r .verdict; tries = r .tries; buffer = t }

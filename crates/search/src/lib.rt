@@ -6,8 +6,8 @@ ghost use Rattle.laws.specs.Lists.{filled};
 ghost use Rattle.tasks.specs.Task.{rows};
 ghost use Rattle.tasks.specs.Refusal.{IsSound, tableLength};
 ghost use Rattle.rules.specs.Search.{search as searchOf};
-ghost use Rattle.walk.specs.Machine.{End, packed};
-ghost use Rattle.search.specs.Told.{workAt, Walks, answerOf, cellLeft, refusedBy, callRefusal, walkTold, toldOf};
+ghost use Rattle.walk.specs.Machine.{End, walkNumber};
+ghost use Rattle.search.specs.Told.{workAt, ListWalked, walkAnswer, cellLeft, refusedAnswer, callRefusal, walkTold, searchedAs};
 use tasks::Slots;
 use tasks::Soundness;
 use tasks::TaskList;
@@ -57,18 +57,18 @@ const NONE: u8 = 13;
 const STOPPED: u8 = 14;
 
 // What the walk's number tells, with the tries counted from `start` on.
-fn told(w: u64, start: u32) -> Answer
+fn walk_answer(w: u64, start: u32) -> Answer
     requires { ⌜ start ≤ w % 4294967296 ⌝ }
-    ensures { λ r. ⌜ ((e : End) (k : ℕ) → w ≡ packed e k → k < 4294967296 → r ≡ answerOf e k start) ⌝ }
+    ensures { λ r. ⌜ ((e : End) (k : ℕ) → w ≡ walkNumber e k → k < 4294967296 → r ≡ walkAnswer e k start) ⌝ }
 {
-    let tries = (w % walk::FOUND) as u32 - start;
-    if w < walk::FOUND {
+    let tries = (w % walk::IF_FOUND) as u32 - start;
+    if w < walk::IF_FOUND {
         return Answer {
             verdict: NONE,
             tries,
         };
     }
-    if w < walk::STOPPED {
+    if w < walk::IF_STOPPED {
         return Answer {
             verdict: FOUND,
             tries,
@@ -90,25 +90,25 @@ fn walk_cells(
     cells: &mut [u8; 4096],
 ) -> u64
     requires { ⌜ IsSound m (rows list) × (len .0 ≡ tableLength (rows list)) ⌝ }
-    ensures { λ r. ⌜ Walks list m engine (len .0) start (now (cells .entry)) r (now (cells .exit)) ⌝ }
+    ensures { λ r. ⌜ ListWalked list m engine (len .0) start (now (cells .entry)) r (now (cells .exit)) ⌝ }
 {
-    let mut board = [0; 17763];
+    let mut grid = [0; 17763];
     let mut left = [0; 32768];
-    fill::fill_board(&mut board, list, m, engine, len);
+    fill::fill_grid(&mut grid, list, m, engine, len);
     let work = list.work;
     fill_left(&mut left, work);
-    walk::walk(cells, &board, &mut left, start)
+    walk::walk(cells, &grid, &mut left, start)
 }
 
 // The walk over a sound list, and what it leaves in the buffer.
 fn walk_list(list: TaskList, m: u8, engine: u8, limit: u32, len: Slots, table: &mut [u8]) -> Answer
     requires { ⌜ IsSound m (rows list) × (len .0 ≡ tableLength (rows list)) × (len .0 * m ≤ length (now table)) ⌝ }
-    ensures { λ r. ⌜ toldOf r (now (table .exit)) ≡ walkTold m (rows list) engine limit (now (table .entry)) ⌝ }
+    ensures { λ r. ⌜ searchedAs r (now (table .exit)) ≡ walkTold m (rows list) engine limit (now (table .entry)) ⌝ }
 {
     let mut cells = [0; 4096];
     let start = walk::FULL - limit;
     let w = walk_cells(list, m, engine, len, start, &mut cells);
-    let answer = told(w, start);
+    let answer = walk_answer(w, start);
     let n = len.0 as usize * m as usize;
     let found = answer.verdict == FOUND;
     hand_over(table, n, found, &cells);
@@ -117,7 +117,7 @@ fn walk_list(list: TaskList, m: u8, engine: u8, limit: u32, len: Slots, table: &
 
 // A refusal reports 0 tries.
 fn refused(number: u8) -> Answer
-    ensures { λ r. ⌜ r ≡ refusedBy number ⌝ }
+    ensures { λ r. ⌜ r ≡ refusedAnswer number ⌝ }
 {
     Answer {
         verdict: number,
@@ -140,7 +140,7 @@ fn call_refusal(engine: u8, room: usize, n: usize) -> u8
 
 // The search of a list on m cores, by an engine, with a limit of tries, into the caller's buffer.
 pub fn search(list: TaskList, m: u8, engine: u8, limit: u32, table: &mut [u8]) -> Answer
-    ensures { λ r. ⌜ toldOf r (now (table .exit)) ≡ searchOf m (rows list) engine limit (now (table .entry)) ⌝ }
+    ensures { λ r. ⌜ searchedAs r (now (table .exit)) ≡ searchOf m (rows list) engine limit (now (table .entry)) ⌝ }
 {
     let soundness = tasks::test_list(list, m);
     match soundness {

@@ -17,14 +17,14 @@ use Rattle.laws.proofs.TestLaws.{both, make-both, all-same, all-true}
 use Rattle.tasks.specs.Instance.{Instance}
 use Rattle.table.specs.Table.{coreOf, beside}
 use Rattle.table.proofs.TableLaws.{beside-before}
-use Rattle.rules.specs.Rules.{permitted, closed, rank, evenRates, twin, idleTried, ruleA, ruleB, quickly}
+use Rattle.rules.specs.Rules.{permitted, allSettled, rank, evenRates, twin, idleTried, ruleA, ruleB, quickly}
 use Rattle.rules.specs.Search.{ruleOf}
-use Rattle.rules.proofs.Plain.{prefix-permitted, prefix-closed}
+use Rattle.rules.proofs.Plain.{prefix-permitted, prefix-settled}
 use Rattle.rules.proofs.Quick.{prefix-quickly}
 use Rattle.sets.specs.Sets.{has}
-use Rattle.board.specs.Board.{most, evenOn, tasksOn, twinRankOn, floorOn}
-use Rattle.board.specs.Ready.{Small, Ready}
-use Rattle.board.proofs.ReadyLaws.{test-same, Sets, core-is, beside-at, permitted-is}
+use Rattle.grid.specs.Grid.{most, evenOn, tasksOn, twinRankOn, floorOn}
+use Rattle.grid.specs.GridFor.{Small, GridFor}
+use Rattle.grid.proofs.GridForLaws.{test-same, Sets, core-is, beside-at, permitted-is}
 
 -- ---- numbers and tests
 -- the largest is at most x exactly if each is
@@ -89,23 +89,23 @@ cost-one P zero p v = refl
 cost-one P (suc e) p v = refl
 
 -- where the walk goes on
-pub closes-prefix : (P : Instance) (e c : ℕ) (t : List ℕ) → c ≤ length t → ruleOf e P .closes (take c t) ≡ closed P c (nth t)
-closes-prefix P zero c t room = prefix-closed P c t room
-closes-prefix P (suc e) c t room = prefix-closed P c t room
+pub goes-prefix : (P : Instance) (e c : ℕ) (t : List ℕ) → c ≤ length t → ruleOf e P .goesOn (take c t) ≡ allSettled P c (nth t)
+goes-prefix P zero c t room = prefix-settled P c t room
+goes-prefix P (suc e) c t room = prefix-settled P c t room
 
-module _ {P : Instance} (small : Small P) (board : List ℕ) {first slot core : ℕ} (ef : first ≡ slot * P .cores) (ls : slot < P .slots) (lc : core < P .cores)
+module _ {P : Instance} (small : Small P) (grid : List ℕ) {first slot core : ℕ} (ef : first ≡ slot * P .cores) (ls : slot < P .slots) (lc : core < P .cores)
     (t : List ℕ) (room : first + core ≤ length t) {sets : ℕ} (holds : Sets P slot core (first + core) (nth t) sets) where
   -- what the plain rule permits
-  plain-is : {e : ℕ} → Ready P e board → (v : ℕ) → v < P .tasks → permitted P (length (take (first + core) t)) (nth (take (first + core) t)) (suc v) ≡ has sets v core
+  plain-is : {e : ℕ} → GridFor P e grid → (v : ℕ) → v < P .tasks → permitted P (length (take (first + core) t)) (nth (take (first + core) t)) (suc v) ≡ has sets v core
   plain-is ready v lv = prefix-permitted P (first + core) t room (suc v) ∙ sym (permitted-is small ready ef ls lc (nth t) holds v lv)
 
   -- the plain rule knows no twins
-  floor-plain : Ready P 0 board → (v : ℕ) → leb (floorOn board t first core) (v + 1) ≡ true
+  floor-plain : GridFor P 0 grid → (v : ℕ) → leb (floorOn grid t first core) (v + 1) ≡ true
   unfolding floorOn twinRankOn
-  floor-plain ready v = leb-most core _ (v + 1) ∙ all-true core _ (λ j lj. rw (ready .twins core j lc lj) (leb-twin false (rankOf (tasksOn board) (nth t (first + j))) (v + 1)))
+  floor-plain ready v = leb-most core _ (v + 1) ∙ all-true core _ (λ j lj. rw (ready .twins core j lc lj) (leb-twin false (rankOf (tasksOn grid) (nth t (first + j))) (v + 1)))
 
   -- rule B
-  floor-quick : {e : ℕ} → Ready P (suc e) board → (v x : ℕ) → rank P v ≡ x → leb (floorOn board t first core) x ≡ ruleB P (first + core) (nth t) v
+  floor-quick : {e : ℕ} → GridFor P (suc e) grid → (v x : ℕ) → rank P v ≡ x → leb (floorOn grid t first core) x ≡ ruleB P (first + core) (nth t) v
   unfolding floorOn twinRankOn ruleB
   floor-quick ready v x ev = leb-most core _ x ∙ all-same core _ _ (λ j lj.
       rw (ready .twins core j lc lj, ready .tasks) (leb-twin (twin P j core) (rank P (nth t (first + j))) x)
@@ -114,8 +114,8 @@ module _ {P : Instance} (small : Small P) (board : List ℕ) {first slot core : 
       ∙ ap (λ n. all n (λ j. imp (twin P j (coreOf P (first + core))) (leb (rank P (nth t (beside P (first + core) j))) (rank P v)))) (sym (core-is small ready ef ls lc))
 
   -- the tasks that are tried
-  pub task-tried : (e : ℕ) → Ready P e board → (v : ℕ) → v < P .tasks
-      → ruleOf e P .tried (take (first + core) t) (suc v) ≡ has sets v core && leb (floorOn board t first core) (v + 1)
+  pub task-tried : (e : ℕ) → GridFor P e grid → (v : ℕ) → v < P .tasks
+      → ruleOf e P .tried (take (first + core) t) (suc v) ≡ has sets v core && leb (floorOn grid t first core) (v + 1)
   unfolding quickly ruleA
   task-tried zero ready v lv = plain-is ready v lv ∙ sym (and-true _ _ (floor-plain ready v))
   task-tried (suc e) ready v lv = prefix-quickly P (first + core) t room (suc v)
@@ -123,15 +123,15 @@ module _ {P : Instance} (small : Small P) (board : List ℕ) {first slot core : 
       ∙ ap (λ b. has sets v core && b) (and-true _ true refl)
 
   -- whether idle is tried
-  pub idle-tried : (e : ℕ) → Ready P e board → ((d : ℕ) → d < first + core → nth t d ≤ P .tasks)
-      → ruleOf e P .tried (take (first + core) t) 0 ≡ eqb (sum (tasksOn board) (λ v. gate (has sets v core) (evenOn board v))) 0
+  pub idle-tried : (e : ℕ) → GridFor P e grid → ((d : ℕ) → d < first + core → nth t d ≤ P .tasks)
+      → ruleOf e P .tried (take (first + core) t) 0 ≡ eqb (sum (tasksOn grid) (λ v. gate (has sets v core) (evenOn grid v))) 0
   unfolding quickly permitted ruleA idleTried
-  idle-tried zero ready known = sym (eqb-sum (tasksOn board) _
-      ∙ all-true (tasksOn board) _ (λ v lv. rw (ready .evens v (rw (ready .tasks) at lv)) (eqb-even (has sets v core) false ∙ imp-true (has sets v core))))
+  idle-tried zero ready known = sym (eqb-sum (tasksOn grid) _
+      ∙ all-true (tasksOn grid) _ (λ v lv. rw (ready .evens v (rw (ready .tasks) at lv)) (eqb-even (has sets v core) false ∙ imp-true (has sets v core))))
   idle-tried (suc e) ready known = prefix-quickly P (first + core) t room 0
       ∙ ap₂ (λ a b. true && (a && (b && true))) (sym evens) (idle-ranked P (first + core) (nth t) known)
       ∙ and-true _ true refl
     where
-      evens : eqb (sum (tasksOn board) (λ v. gate (has sets v core) (evenOn board v))) 0 ≡ idleTried P (first + core) (nth t)
-      evens = eqb-sum (tasksOn board) _ ∙ rw (ready .tasks) (all-same (P .tasks) _ _ (λ v lv.
+      evens : eqb (sum (tasksOn grid) (λ v. gate (has sets v core) (evenOn grid v))) 0 ≡ idleTried P (first + core) (nth t)
+      evens = eqb-sum (tasksOn grid) _ ∙ rw (ready .tasks) (all-same (P .tasks) _ _ (λ v lv.
           rw (ready .evens v lv, permitted-is small ready ef ls lc (nth t) holds v lv) (eqb-even (permitted P (first + core) (nth t) (suc v)) (evenRates P (suc v)))))

@@ -21,54 +21,54 @@ use Rattle.laws.proofs.SumLaws.{lt-or-ge}
 use Rattle.laws.proofs.TestLaws.{all-true}
 use Rattle.table.specs.Table.{cells}
 use Rattle.table.proofs.TableLaws.{done-same}
-use Rattle.rules.specs.Walk.{Rule, found, none, spend, Answer, ended, stopped, limited}
+use Rattle.rules.specs.Walk.{Rule, found, none, spend, Outcome, ended, stopped, limited}
 use Rattle.rules.specs.Limit.{allow, bgate, bnext, btryAll, bwalk}
-use Rattle.rules.specs.Rules.{values, settled, closed}
+use Rattle.rules.specs.Rules.{values, settled, allSettled}
 use Rattle.rules.specs.Search.{ruleOf, walked}
 use Rattle.rules.proofs.Limit.{bwalk-from}
 use Rattle.sets.specs.Sets.{has, without}
-use Rattle.board.specs.Board.{counterOn, rateOn, evenOn, coresOn, slotsOn, setsOn, floorOn, closesOn}
-use Rattle.walk.specs.Machine.{End, Found, Nothing, Stopped, State, state, Onward, idleLast, placed, tryFrom, closeThen, walkOn}
-use Rattle.board.specs.Ready.{Small, Ready, Lefts}
+use Rattle.grid.specs.Grid.{counterOn, rateOn, evenOn, coresOn, slotsOn, setsOn, floorOn, allSettledOn}
+use Rattle.walk.specs.Machine.{End, Found, NoneFound, Stopped, State, state, Onward, idleLast, placed, tryFrom, afterCell, walkOn}
+use Rattle.grid.specs.GridFor.{Small, GridFor, Lefts}
 use Rattle.walk.proofs.TurnLaws.{or-else-stays, skip, barred-by-B, stop, tried, back}
-use Rattle.board.proofs.ReadyLaws.{Sets, sets-same, closes-is, closed-within, open-tells, lefts-idle, lefts-put, sets-idle, sets-put, sets-start}
-use Rattle.walk.proofs.ObeyLaws.{cost-one, closes-prefix, task-tried, idle-tried}
+use Rattle.grid.proofs.GridForLaws.{Sets, sets-same, all-settled-is, settled-within, open-tells, lefts-idle, lefts-put, sets-idle, sets-put, sets-start}
+use Rattle.walk.proofs.ObeyLaws.{cost-one, goes-prefix, task-tried, idle-tried}
 
 -- what an end tells from cell c on, of n cells
-unfoldable pub toldAt : End → ℕ → ℕ → List ℕ → ℕ → Answer
+unfoldable pub toldAt : End → ℕ → ℕ → List ℕ → ℕ → Outcome
 toldAt Found n c t u = ended (found (take (n - c) (drop c t)) u)
-toldAt Nothing n c t u = ended (none u)
+toldAt NoneFound n c t u = ended (none u)
 toldAt Stopped n c t u = stopped u
 
 -- a state tells an answer from cell c on, has the table's earlier cells as they were and, if it found nothing, the work left too
-pub record Shows (b n c : ℕ) (t l : List ℕ) (s : State) (a : Answer) : Type 0 where
+pub record Shows (b n c : ℕ) (t l : List ℕ) (s : State) (a : Outcome) : Type 0 where
   pub answer : toldAt (s .end) n c (s .table) (s .tries) ≡ a
   pub prefix : take c (s .table) ≡ take c t
   pub long : length (s .table) ≡ length t
   pub most : s .tries ≤ b
-  pub again : s .end ≡ Nothing → s .left ≡ l
+  pub again : s .end ≡ NoneFound → s .left ≡ l
 
 -- the same for an equal state and an equal answer
-pub shows-same : {b n c : ℕ} {t l : List ℕ} {s s′ : State} {a a′ : Answer} → s′ ≡ s → a′ ≡ a → Shows b n c t l s a → Shows b n c t l s′ a′
+pub shows-same : {b n c : ℕ} {t l : List ℕ} {s s′ : State} {a a′ : Outcome} → s′ ≡ s → a′ ≡ a → Shows b n c t l s a → Shows b n c t l s′ a′
 shows-same {b} {n} {c} {t} {l} es ea h = subst₂ (Shows b n c t l) (sym es) (sym ea) h
 
 -- an end is Nothing, or not
-end-cases : {X : Type 0} (e : End) → (e ≡ Nothing → X) → ((e ≡ Nothing → ⊥) → X) → X
+end-cases : {X : Type 0} (e : End) → (e ≡ NoneFound → X) → ((e ≡ NoneFound → ⊥) → X) → X
 end-cases Found f g = g (λ z. let y : _≡_ {A = ℕ} 0 1 = cc in omega arith)
-end-cases Nothing f g = f refl
+end-cases NoneFound f g = f refl
 end-cases Stopped f g = g (λ z. let y : _≡_ {A = ℕ} 0 1 = cc in omega arith)
 
 -- Stopped is not Nothing
-stopped-apart : _≡_ {A = End} Stopped Nothing → ⊥
+stopped-apart : _≡_ {A = End} Stopped NoneFound → ⊥
 stopped-apart z = let y : _≡_ {A = ℕ} 0 1 = cc in omega arith
 
 -- nor is Found
-found-apart : _≡_ {A = End} Found Nothing → ⊥
+found-apart : _≡_ {A = End} Found NoneFound → ⊥
 found-apart z = let y : _≡_ {A = ℕ} 0 1 = cc in omega arith
 
 -- ---- one cell earlier
-module _ {b n c : ℕ} (lc : c < n) (t l : List ℕ) {t₁ l₁ : List ℕ} {s : State} {a : Answer} (shows : Shows b n (suc c) t₁ l₁ s a) {w : ℕ} (ew : nth t₁ c ≡ w)
-    (et : take c t₁ ≡ take c t) (el : length t₁ ≡ length t) (room : c < length t) (g : ℕ → Answer) where
+module _ {b n c : ℕ} (lc : c < n) (t l : List ℕ) {t₁ l₁ : List ℕ} {s : State} {a : Outcome} (shows : Shows b n (suc c) t₁ l₁ s a) {w : ℕ} (ew : nth t₁ c ≡ w)
+    (et : take c t₁ ≡ take c t) (el : length t₁ ≡ length t) (room : c < length t) (g : ℕ → Outcome) where
   -- the cells before
   before-prefix : take c (s .table) ≡ take c t
   before-prefix = sym (take-take c (suc c) (s .table) (omega arith)) ∙ ap (take c) (shows .prefix) ∙ take-take c (suc c) t₁ (omega arith) ∙ et
@@ -87,7 +87,7 @@ module _ {b n c : ℕ} (lc : c < n) (t l : List ℕ) {t₁ l₁ : List ℕ} {s :
       more = omega arith
 
   -- the walk has ended below this cell
-  below-ended : (s .end ≡ Nothing → ⊥) → Shows b n c t l s (bnext w a g)
+  below-ended : (s .end ≡ NoneFound → ⊥) → Shows b n c t l s (bnext w a g)
   unfolding toldAt
   below-ended x = record {
     answer = go (s .end) x (shows .answer);
@@ -97,13 +97,13 @@ module _ {b n c : ℕ} (lc : c < n) (t l : List ℕ) {t₁ l₁ : List ℕ} {s :
     again = λ z. absurd (x z);
   }
     where
-      go : (e : End) → (e ≡ Nothing → ⊥) → toldAt e n (suc c) (s .table) (s .tries) ≡ a → toldAt e n c (s .table) (s .tries) ≡ bnext w a g
+      go : (e : End) → (e ≡ NoneFound → ⊥) → toldAt e n (suc c) (s .table) (s .tries) ≡ a → toldAt e n c (s .table) (s .tries) ≡ bnext w a g
       go Found x h = ap (λ z. ended (found z (s .tries))) before-cells ∙ ap (λ z. bnext w z g) h
-      go Nothing x h = absurd (x refl)
+      go NoneFound x h = absurd (x refl)
       go Stopped x h = ap (λ z. bnext w z g) h
 
   -- the walk comes back from below this cell
-  below-none : s .end ≡ Nothing → bnext w a g ≡ g (s .tries)
+  below-none : s .end ≡ NoneFound → bnext w a g ≡ g (s .tries)
   unfolding toldAt
   below-none z = ap (λ x. bnext w x g) (sym (shows .answer) ∙ ap (λ e. toldAt e n (suc c) (s .table) (s .tries)) z)
 
@@ -132,7 +132,7 @@ cell-in : {P : Instance} {first slot core sets : ℕ} {t l : List ℕ} → Befor
 cell-in {P} {first} {slot} {core} s = omega (arith, s .first-is, mul-le-mul-right (P .cores) (s .slot-in))
 
 -- the values of a cell, each put behind the prefix p, with `rest` cells behind it
-abbrev pub oneValue : ℕ → Rule → List ℕ → ℕ → List ℕ → ℕ → ℕ → Answer
+abbrev pub oneValue : ℕ → Rule → List ℕ → ℕ → List ℕ → ℕ → ℕ → Outcome
 oneValue b R vs rest p v = bgate (R .tried p v) (λ j. allow (leb (j + R .cost p v) b) b (j + R .cost p v) (bwalk b R vs rest (p ++ v ∷ [])))
 
 -- a value that is not tried
@@ -164,7 +164,7 @@ module _ (c : ℕ) (t t₀ : List ℕ) (et : take c t ≡ take c t₀) where
   holds-same h = sets-same (λ d ld. sym (cell-same d ld)) h
 
 -- ---- the walk
-module _ {P : Instance} (small : Small P) (e b : ℕ) (board : List ℕ) (ready : Ready P e board) where
+module _ {P : Instance} (small : Small P) (e b : ℕ) (grid : List ℕ) (ready : GridFor P e grid) where
   module _ {first slot core sets : ℕ} {t₀ l : List ℕ} (stands : Before P first slot core sets t₀ l) (rest : ℕ) (next : Onward)
       (onward : (sets₁ : ℕ) (t₁ l₁ : List ℕ) (u : ℕ) → After P first slot core sets₁ t₁ l₁ → u ≤ b
       → Shows b (cells P) (suc (first + core)) t₁ l₁ (next sets₁ t₁ l₁ u) (bwalk b (ruleOf e P) (values P) rest (take (suc (first + core)) t₁) u)) where
@@ -201,7 +201,7 @@ module _ {P : Instance} (small : Small P) (e b : ℕ) (board : List ℕ) (ready 
     -- idle, after the last task
     idle-shows : (t : List ℕ) (barred u : ℕ) → take (first + core) t ≡ take (first + core) t₀ → length t ≡ length t₀
         → ruleOf e P .tried (take (first + core) t₀) 0 ≡ eqb barred 0 → u ≤ b
-        → Shows b (cells P) (first + core) t₀ l (idleLast board b first slot core sets next t l barred u)
+        → Shows b (cells P) (first + core) t₀ l (idleLast grid b first slot core sets next t l barred u)
         (btryAll (oneValue b (ruleOf e P) (values P) rest (take (first + core) t₀)) (0 ∷ []) u)
     unfolding idleLast toldAt
     idle-shows t barred u et el h lu = elim (ℕ-discrete barred 0) [
@@ -222,58 +222,58 @@ module _ {P : Instance} (small : Small P) (e b : ℕ) (board : List ℕ) (ready 
             })
             (λ w. below-ended (cell-in stands) t₀ l s (getD-set-same t (first + core) 0 0 (omega (arith, room, el))) (take-set-le (first + core) t (first + core) 0 (omega arith) ∙ et) (length-set t (first + core) 0 ∙ el) room ends w))
       ]
-      | no z ↦ shows-same {s = state Nothing t l u} (rw (ne-eqb barred 0 z)) (ap (λ a. bnext 0 a ends) (one-skips P e b rest (take (first + core) t₀) 0 u (h ∙ ne-eqb barred 0 z)))
+      | no z ↦ shows-same {s = state NoneFound t l u} (rw (ne-eqb barred 0 z)) (ap (λ a. bnext 0 a ends) (one-skips P e b rest (take (first + core) t₀) 0 u (h ∙ ne-eqb barred 0 z)))
           (record { answer = refl; prefix = et; long = el; most = lu; again = λ w. refl })
     ]
       where
-        ends : ℕ → Answer
+        ends : ℕ → Outcome
         ends u = ended (none u)
 
     -- how many of the tasks before v may stand there and bar idle
     barring : ℕ → ℕ
-    barring v = sum v (λ w. gate (has sets w core) (evenOn board w))
+    barring v = sum v (λ w. gate (has sets w core) (evenOn grid w))
 
     -- what is still to be tried of the cell's values, from v + 1 on, tells what is left of the rule's values
     Tells : ℕ → ℕ → List ℕ → ℕ → ℕ → Type 0
-    Tells j v t barred u = Shows b (cells P) (first + core) t₀ l (tryFrom board b first slot core sets next j (floorOn board t₀ first core) t l v barred u)
+    Tells j v t barred u = Shows b (cells P) (first + core) t₀ l (tryFrom grid b first slot core sets next j (floorOn grid t₀ first core) t l v barred u)
         (btryAll (oneValue b (ruleOf e P) (values P) rest (take (first + core) t₀)) (upTo j (suc v)) u)
 
     -- one task
     module _ (j v : ℕ) (lv : v < P .tasks) (t : List ℕ) (barred u : ℕ) (et : take (first + core) t ≡ take (first + core) t₀) (el : length t ≡ length t₀)
         (hb : barred ≡ barring v) (lu : u ≤ b)
         (ih : (t′ : List ℕ) (barred′ u′ : ℕ) → take (first + core) t′ ≡ take (first + core) t₀ → length t′ ≡ length t₀ → barred′ ≡ barring (suc v) → u′ ≤ b → Tells j (suc v) t′ barred′ u′) where
-      others : ℕ → Answer
+      others : ℕ → Outcome
       others = btryAll (oneValue b (ruleOf e P) (values P) rest (take (first + core) t₀)) (upTo j (suc (suc v)))
 
       -- whether it is tried
-      is-tried : ruleOf e P .tried (take (first + core) t₀) (suc v) ≡ has sets v core && leb (floorOn board t₀ first core) (v + 1)
-      is-tried = task-tried small board (stands .first-is) (stands .slot-in) (stands .core-in) t₀ (omega (arith, room)) (stands .holds) e ready v lv
+      is-tried : ruleOf e P .tried (take (first + core) t₀) (suc v) ≡ has sets v core && leb (floorOn grid t₀ first core) (v + 1)
+      is-tried = task-tried small grid (stands .first-is) (stands .slot-in) (stands .core-in) t₀ (omega (arith, room)) (stands .holds) e ready v lv
 
       -- it may not stand there
       not-there : has sets v core ≡ false → Tells (suc j) v t barred u
       unfolding Tells barring sum gate others
-      not-there p = shows-same {s = tryFrom board b first slot core sets next j (floorOn board t₀ first core) t l (suc v) barred u}
-          (skip board b first slot core sets next j (floorOn board t₀ first core) t l v barred u p
-          ∙ ap (λ x. tryFrom board b first slot core sets next j (floorOn board t₀ first core) t l x barred u) (add-one v))
-          (ap (λ a. bnext (suc v) a others) (one-skips P e b rest (take (first + core) t₀) (suc v) u (is-tried ∙ ap (λ x. x && leb (floorOn board t₀ first core) (v + 1)) p)))
+      not-there p = shows-same {s = tryFrom grid b first slot core sets next j (floorOn grid t₀ first core) t l (suc v) barred u}
+          (skip grid b first slot core sets next j (floorOn grid t₀ first core) t l v barred u p
+          ∙ ap (λ x. tryFrom grid b first slot core sets next j (floorOn grid t₀ first core) t l x barred u) (add-one v))
+          (ap (λ a. bnext (suc v) a others) (one-skips P e b rest (take (first + core) t₀) (suc v) u (is-tried ∙ ap (λ x. x && leb (floorOn grid t₀ first core) (v + 1)) p)))
           (ih t barred u et el (hb ∙ sym (rw p (add-zero _))) lu)
 
       module _ (p : has sets v core ≡ true) where
         -- one more that may bar idle
-        one-more : barred + evenOn board v ≡ barring (suc v)
+        one-more : barred + evenOn grid v ≡ barring (suc v)
         unfolding barring sum gate
-        one-more = rw p (ap (λ x. x + evenOn board v) hb)
+        one-more = rw p (ap (λ x. x + evenOn grid v) hb)
 
         -- rule B bars it
-        by-B : leb (floorOn board t₀ first core) (v + 1) ≡ false → Tells (suc j) v t barred u
+        by-B : leb (floorOn grid t₀ first core) (v + 1) ≡ false → Tells (suc j) v t barred u
         unfolding Tells others
-        by-B q = shows-same {s = tryFrom board b first slot core sets next j (floorOn board t₀ first core) t l (suc v) (barred + evenOn board v) u}
-            (barred-by-B board b first slot core sets next j (floorOn board t₀ first core) t l v barred u p (leb-false _ _ q)
-            ∙ ap (λ x. tryFrom board b first slot core sets next j (floorOn board t₀ first core) t l x (barred + evenOn board v) u) (add-one v))
+        by-B q = shows-same {s = tryFrom grid b first slot core sets next j (floorOn grid t₀ first core) t l (suc v) (barred + evenOn grid v) u}
+            (barred-by-B grid b first slot core sets next j (floorOn grid t₀ first core) t l v barred u p (leb-false _ _ q)
+            ∙ ap (λ x. tryFrom grid b first slot core sets next j (floorOn grid t₀ first core) t l x (barred + evenOn grid v) u) (add-one v))
             (ap (λ a. bnext (suc v) a others) (one-skips P e b rest (take (first + core) t₀) (suc v) u (is-tried ∙ rw (p, q))))
-            (ih t (barred + evenOn board v) u et el one-more lu)
+            (ih t (barred + evenOn grid v) u et el one-more lu)
 
-        module _ (q : leb (floorOn board t₀ first core) (v + 1) ≡ true) where
+        module _ (q : leb (floorOn grid t₀ first core) (v + 1) ≡ true) where
           yes-tried : ruleOf e P .tried (take (first + core) t₀) (suc v) ≡ true
           yes-tried = is-tried ∙ rw (p, q)
 
@@ -281,14 +281,14 @@ module _ {P : Instance} (small : Small P) (e b : ℕ) (board : List ℕ) (ready 
           out : u ≡ b → Tells (suc j) v t barred u
           unfolding Tells others toldAt
           out z = shows-same {s = state Stopped t l u}
-              (stop board b first slot core sets next j (floorOn board t₀ first core) t l v barred u p (leb-true _ _ q) z)
+              (stop grid b first slot core sets next j (floorOn grid t₀ first core) t l v barred u p (leb-true _ _ q) z)
               (ap (λ a. bnext (suc v) a others) (one-stops P e b rest (take (first + core) t₀) (suc v) u yes-tried z))
               (record { answer = ap stopped z; prefix = et; long = el; most = lu; again = λ w. absurd (stopped-apart w) })
 
           -- it is put into the cell
           module _ (z : u ≢ b) where
             l₁ : List ℕ
-            l₁ = set l (counterOn board slot v) (nth l (counterOn board slot v) - rateOn board v core)
+            l₁ = set l (counterOn grid slot v) (nth l (counterOn grid slot v) - rateOn grid v core)
 
             r : State
             r = next (without sets v) (set t (first + core) (v + 1)) l₁ (u + 1)
@@ -310,10 +310,10 @@ module _ {P : Instance} (small : Small P) (e b : ℕ) (board : List ℕ) (ready 
                 holds = holds-same (first + core) t t₀ et (stands .holds)
 
             -- the counter is given back what it was
-            given-back : r .end ≡ Nothing → set (r .left) (counterOn board slot v) (nth l (counterOn board slot v)) ≡ l
+            given-back : r .end ≡ NoneFound → set (r .left) (counterOn grid slot v) (nth l (counterOn grid slot v)) ≡ l
             unfolding l₁
-            given-back w = ap (λ x. set x (counterOn board slot v) (nth l (counterOn board slot v))) (tells-below .again w)
-                ∙ set-set l (counterOn board slot v) _ _ ∙ set-getD l (counterOn board slot v) 0
+            given-back w = ap (λ x. set x (counterOn grid slot v) (nth l (counterOn grid slot v))) (tells-below .again w)
+                ∙ set-set l (counterOn grid slot v) _ _ ∙ set-getD l (counterOn grid slot v) 0
 
             -- the walk below it is what the rule's value gives
             value-is : oneValue b (ruleOf e P) (values P) rest (take (first + core) t₀) (suc v) u
@@ -333,14 +333,14 @@ module _ {P : Instance} (small : Small P) (e b : ℕ) (board : List ℕ) (ready 
             in-cell : Tells (suc j) v t barred u
             unfolding Tells others l₁ r placed
             in-cell = end-cases (r .end)
-                (λ w. shows-same {s = tryFrom board b first slot core sets next j (floorOn board t₀ first core) (r .table) l (suc v) (barred + evenOn board v) (r .tries)}
-                (back board b first slot core sets next j (floorOn board t₀ first core) t l v barred u p (leb-true _ _ q) z r refl w
-                ∙ (λ i. tryFrom board b first slot core sets next j (floorOn board t₀ first core) (r .table) (given-back w i) (add-one v i) (barred + evenOn board v) (r .tries)))
+                (λ w. shows-same {s = tryFrom grid b first slot core sets next j (floorOn grid t₀ first core) (r .table) l (suc v) (barred + evenOn grid v) (r .tries)}
+                (back grid b first slot core sets next j (floorOn grid t₀ first core) t l v barred u p (leb-true _ _ q) z r refl w
+                ∙ (λ i. tryFrom grid b first slot core sets next j (floorOn grid t₀ first core) (r .table) (given-back w i) (add-one v i) (barred + evenOn grid v) (r .tries)))
                 (ap (λ a. bnext (suc v) a others) value-is ∙ below-none (cell-in stands) t₀ l tells-below cell-is prefix-is long-is room others w)
-                (ih (r .table) (barred + evenOn board v) (r .tries) (before-prefix (cell-in stands) t₀ l tells-below cell-is prefix-is long-is room others)
+                (ih (r .table) (barred + evenOn grid v) (r .tries) (before-prefix (cell-in stands) t₀ l tells-below cell-is prefix-is long-is room others)
                 (tells-below .long ∙ long-is) one-more (tells-below .most)))
                 (λ w. shows-same {s = r}
-                (tried board b first slot core sets next j (floorOn board t₀ first core) t l v barred u p (leb-true _ _ q) z r refl ∙ or-else-stays (r .end) r _ w)
+                (tried grid b first slot core sets next j (floorOn grid t₀ first core) t l v barred u p (leb-true _ _ q) z r refl ∙ or-else-stays (r .end) r _ w)
                 (ap (λ a. bnext (suc v) a others) value-is)
                 (below-ended (cell-in stands) t₀ l tells-below cell-is prefix-is long-is room others w))
 
@@ -348,9 +348,9 @@ module _ {P : Instance} (small : Small P) (e b : ℕ) (board : List ℕ) (ready 
           one-tried = elim (ℕ-discrete u b) [ yes z ↦ out z | no x ↦ in-cell x ]
 
       one-task : Tells (suc j) v t barred u
-      one-task = go (has sets v core) refl (leb (floorOn board t₀ first core) (v + 1)) refl
+      one-task = go (has sets v core) refl (leb (floorOn grid t₀ first core) (v + 1)) refl
         where
-          go : (p : Bool) → has sets v core ≡ p → (q : Bool) → leb (floorOn board t₀ first core) (v + 1) ≡ q → Tells (suc j) v t barred u
+          go : (p : Bool) → has sets v core ≡ p → (q : Bool) → leb (floorOn grid t₀ first core) (v + 1) ≡ q → Tells (suc j) v t barred u
           go false p q h = not-there p
           go true p false h = by-B p h
           go true p true h = one-tried p h
@@ -360,8 +360,8 @@ module _ {P : Instance} (small : Small P) (e b : ℕ) (board : List ℕ) (ready 
         → barred ≡ barring v → u ≤ b → Tells j v t barred u
     unfolding Tells tryFrom barring
     values-tell zero v t barred u ev et el hb lu = idle-shows t barred u et el
-        (idle-tried small board (stands .first-is) (stands .slot-in) (stands .core-in) t₀ (omega (arith, room)) (stands .holds) e ready (stands .known)
-        ∙ ap (λ x. eqb x 0) (ap (λ n. sum n (λ w. gate (has sets w core) (evenOn board w))) (ready .tasks ∙ omega arith) ∙ sym hb)) lu
+        (idle-tried small grid (stands .first-is) (stands .slot-in) (stands .core-in) t₀ (omega (arith, room)) (stands .holds) e ready (stands .known)
+        ∙ ap (λ x. eqb x 0) (ap (λ n. sum n (λ w. gate (has sets w core) (evenOn grid w))) (ready .tasks ∙ omega arith) ∙ sym hb)) lu
     values-tell (suc j) v t barred u ev et el hb lu = one-task j v (omega arith) t barred u et el hb lu (λ t′ barred′ u′. values-tell j (suc v) t′ barred′ u′ (omega arith))
 
     -- the whole cell
@@ -371,16 +371,16 @@ module _ {P : Instance} (small : Small P) (e b : ℕ) (board : List ℕ) (ready 
 
   -- ---- from cell to cell
   -- the walk under the limit behind a test that passes or fails
-  bwalk-in : (k : ℕ) (p : List ℕ) (u : ℕ) → ruleOf e P .closes p ≡ true
+  bwalk-in : (k : ℕ) (p : List ℕ) (u : ℕ) → ruleOf e P .goesOn p ≡ true
       → bwalk b (ruleOf e P) (values P) (suc k) p u ≡ btryAll (oneValue b (ruleOf e P) (values P) k p) (values P) u
   unfolding bwalk
   bwalk-in k p u h = rw h
 
-  bwalk-end : (p : List ℕ) (u : ℕ) → ruleOf e P .closes p ≡ true → bwalk b (ruleOf e P) (values P) 0 p u ≡ ended (found [] u)
+  bwalk-end : (p : List ℕ) (u : ℕ) → ruleOf e P .goesOn p ≡ true → bwalk b (ruleOf e P) (values P) 0 p u ≡ ended (found [] u)
   unfolding bwalk
   bwalk-end p u h = rw h
 
-  bwalk-shut : (k : ℕ) (p : List ℕ) (u : ℕ) → ruleOf e P .closes p ≡ false → bwalk b (ruleOf e P) (values P) k p u ≡ ended (none u)
+  bwalk-shut : (k : ℕ) (p : List ℕ) (u : ℕ) → ruleOf e P .goesOn p ≡ false → bwalk b (ruleOf e P) (values P) k p u ≡ ended (none u)
   unfolding bwalk
   bwalk-shut zero p u h = rw h
   bwalk-shut (suc k) p u h = rw h
@@ -388,18 +388,18 @@ module _ {P : Instance} (small : Small P) (e b : ℕ) (board : List ℕ) (ready 
   -- from a cell with k cells left, this one among them, the arrays' walk tells what the rule's values do
   Goes : ℕ → Type 0
   Goes k = (first slot core sets : ℕ) (t l : List ℕ) → Before P first slot core sets t l → (u : ℕ) → u ≤ b → k + (first + core) ≡ cells P
-      → Shows b (cells P) (first + core) t l (walkOn k board b first slot core sets t l u) (btryAll (oneValue b (ruleOf e P) (values P) (pred k) (take (first + core) t)) (values P) u)
+      → Shows b (cells P) (first + core) t l (walkOn k grid b first slot core sets t l u) (btryAll (oneValue b (ruleOf e P) (values P) (pred k) (take (first + core) t)) (values P) u)
 
   module _ (rest : ℕ) (goes : Goes rest) {first slot core : ℕ} (ef : first ≡ slot * P .cores) (ls : slot < P .slots) (lc : core < P .cores)
       (er : rest + suc (first + core) ≡ cells P) (sets : ℕ) (t l : List ℕ) (after : After P first slot core sets t l) (u : ℕ) (lu : u ≤ b) where
     -- what closes the cell is told by the rule
-    closes-at : ruleOf e P .closes (take (suc (first + core)) t) ≡ closed P (suc (first + core)) (nth t)
-    closes-at = closes-prefix P e (suc (first + core)) t (omega (arith, after .long))
+    goes-at : ruleOf e P .goesOn (take (suc (first + core)) t) ≡ allSettled P (suc (first + core)) (nth t)
+    goes-at = goes-prefix P e (suc (first + core)) t (omega (arith, after .long))
 
     -- the next cell, of core `core′` in the slot that begins at `first′`, is cell c
     next-cell : (c first′ slot′ core′ sets′ : ℕ) → Sets P slot′ core′ (suc (first + core)) (nth t) sets′ → c ≡ first′ + core′ → c ≡ suc (first + core) → first′ ≡ slot′ * P .cores → slot′ < P .slots → core′ < P .cores → c < cells P
-        → ruleOf e P .closes (take (suc (first + core)) t) ≡ true
-        → Shows b (cells P) (suc (first + core)) t l (walkOn rest board b first′ slot′ core′ sets′ t l u) (bwalk b (ruleOf e P) (values P) rest (take (suc (first + core)) t) u)
+        → ruleOf e P .goesOn (take (suc (first + core)) t) ≡ true
+        → Shows b (cells P) (suc (first + core)) t l (walkOn rest grid b first′ slot′ core′ sets′ t l u) (bwalk b (ruleOf e P) (values P) rest (take (suc (first + core)) t) u)
     unfolding Goes
     next-cell c first′ slot′ core′ sets′ holds ec es ef′ ls′ lc′ lt h = go rest goes er
       where
@@ -416,44 +416,44 @@ module _ {P : Instance} (small : Small P) (e b : ℕ) (board : List ℕ) (ready 
         }
 
         go : (k : ℕ) → Goes k → k + suc (first + core) ≡ cells P
-            → Shows b (cells P) (suc (first + core)) t l (walkOn k board b first′ slot′ core′ sets′ t l u) (bwalk b (ruleOf e P) (values P) k (take (suc (first + core)) t) u)
+            → Shows b (cells P) (suc (first + core)) t l (walkOn k grid b first′ slot′ core′ sets′ t l u) (bwalk b (ruleOf e P) (values P) k (take (suc (first + core)) t) u)
         go zero g ek = absurd (omega arith)
         go (suc k) g ek = shows-same refl (bwalk-in k (take (suc (first + core)) t) u h)
-            (subst (λ x. Shows b (cells P) x t l (walkOn (suc k) board b first′ slot′ core′ sets′ t l u) (btryAll (oneValue b (ruleOf e P) (values P) k (take x t)) (values P) u))
+            (subst (λ x. Shows b (cells P) x t l (walkOn (suc k) grid b first′ slot′ core′ sets′ t l u) (btryAll (oneValue b (ruleOf e P) (values P) k (take x t)) (values P) u))
             (sym ec ∙ es) (g first′ slot′ core′ sets′ t l stands u lu (omega arith)))
 
     -- one more core in the slot
-    next-core : core + 1 < P .cores → Shows b (cells P) (suc (first + core)) t l (closeThen board (walkOn rest board b) first slot (core + 1) sets t l u)
+    next-core : core + 1 < P .cores → Shows b (cells P) (suc (first + core)) t l (afterCell grid (walkOn rest grid b) first slot (core + 1) sets t l u)
         (bwalk b (ruleOf e P) (values P) rest (take (suc (first + core)) t) u)
-    unfolding closeThen
-    next-core h = shows-same {s = walkOn rest board b first slot (core + 1) sets t l u} (rw (lt-ltb (core + 1) (coresOn board) (rw (ready .cores) h))) refl
+    unfolding afterCell
+    next-core h = shows-same {s = walkOn rest grid b first slot (core + 1) sets t l u} (rw (lt-ltb (core + 1) (coresOn grid) (rw (ready .cores) h))) refl
         (next-cell (first + (core + 1)) first slot (core + 1) sets (after .holds) refl (omega arith) ef ls h (omega (arith, ef, mul-le-mul-right (P .cores) ls))
-        (closes-at ∙ ap (λ c. closed P c (nth t)) (omega arith) ∙ closed-within small ready slot (core + 1) (omega arith) h (nth t)))
+        (goes-at ∙ ap (λ c. allSettled P c (nth t)) (omega arith) ∙ settled-within small ready slot (core + 1) (omega arith) h (nth t)))
 
     -- the slot is at its end
     module _ (h : P .cores ≤ core + 1) where
-      slot-ends : closesOn board l slot ≡ ruleOf e P .closes (take (suc (first + core)) t)
-      slot-ends = closes-is small ready ls (suc (first + core)) (nth t) l (after .lefts) (omega (arith, ef)) ∙ sym closes-at
+      slot-ends : allSettledOn grid l slot ≡ ruleOf e P .goesOn (take (suc (first + core)) t)
+      slot-ends = all-settled-is small ready ls (suc (first + core)) (nth t) l (after .lefts) (omega (arith, ef)) ∙ sym goes-at
 
-      starved-slot : closesOn board l slot ≡ false → Shows b (cells P) (suc (first + core)) t l (closeThen board (walkOn rest board b) first slot (core + 1) sets t l u)
+      starved-slot : allSettledOn grid l slot ≡ false → Shows b (cells P) (suc (first + core)) t l (afterCell grid (walkOn rest grid b) first slot (core + 1) sets t l u)
           (bwalk b (ruleOf e P) (values P) rest (take (suc (first + core)) t) u)
-      unfolding closeThen toldAt
-      starved-slot z = shows-same {s = state Nothing t l u} (rw (le-ltb (core + 1) (coresOn board) (rw (ready .cores) h), z))
+      unfolding afterCell toldAt
+      starved-slot z = shows-same {s = state NoneFound t l u} (rw (le-ltb (core + 1) (coresOn grid) (rw (ready .cores) h), z))
           (bwalk-shut rest (take (suc (first + core)) t) u (sym slot-ends ∙ z))
           (record { answer = refl; prefix = refl; long = refl; most = lu; again = λ _. refl })
 
-      closed-slot : closesOn board l slot ≡ true → Shows b (cells P) (suc (first + core)) t l (closeThen board (walkOn rest board b) first slot (core + 1) sets t l u)
+      settled-slot : allSettledOn grid l slot ≡ true → Shows b (cells P) (suc (first + core)) t l (afterCell grid (walkOn rest grid b) first slot (core + 1) sets t l u)
           (bwalk b (ruleOf e P) (values P) rest (take (suc (first + core)) t) u)
-      unfolding closeThen toldAt
-      closed-slot z = ⊎-elim
-          (λ more. shows-same {s = walkOn rest board b (first + (core + 1)) (slot + 1) 0 (setsOn board l (slot + 1)) t l u}
-          (rw (le-ltb (core + 1) (coresOn board) (rw (ready .cores) h), z, lt-ltb (slot + 1) (slotsOn board) (rw (ready .slots) more))) refl
-          (next-cell (first + (core + 1)) (first + (core + 1)) (slot + 1) 0 (setsOn board l (slot + 1)) (sets-start small ready (omega (arith, ef)) more t l (after .lefts)) (omega arith) (omega arith) (omega (arith, ef)) more (omega arith)
+      unfolding afterCell toldAt
+      settled-slot z = ⊎-elim
+          (λ more. shows-same {s = walkOn rest grid b (first + (core + 1)) (slot + 1) 0 (setsOn grid l (slot + 1)) t l u}
+          (rw (le-ltb (core + 1) (coresOn grid) (rw (ready .cores) h), z, lt-ltb (slot + 1) (slotsOn grid) (rw (ready .slots) more))) refl
+          (next-cell (first + (core + 1)) (first + (core + 1)) (slot + 1) 0 (setsOn grid l (slot + 1)) (sets-start small ready (omega (arith, ef)) more t l (after .lefts)) (omega arith) (omega arith) (omega (arith, ef)) more (omega arith)
           (omega (arith, ef, mul-le-mul-right (P .cores) more)) (sym slot-ends ∙ z)))
           (λ none. let last : rest ≡ 0 = omega (arith, ef, mul-le-mul-right (P .cores) none) in
           let over : cells P - suc (first + core) ≡ 0 = omega arith in
           shows-same {s = state Found t l u}
-          (rw (le-ltb (core + 1) (coresOn board) (rw (ready .cores) h), z, le-ltb (slot + 1) (slotsOn board) (rw (ready .slots) none)))
+          (rw (le-ltb (core + 1) (coresOn grid) (rw (ready .cores) h), z, le-ltb (slot + 1) (slotsOn grid) (rw (ready .slots) none)))
           (ap (λ k. bwalk b (ruleOf e P) (values P) k (take (suc (first + core)) t) u) last ∙ bwalk-end (take (suc (first + core)) t) u (sym slot-ends ∙ z))
           (record {
             answer = ap (λ k. ended (found (take k (drop (suc (first + core)) t)) u)) over;
@@ -465,41 +465,41 @@ module _ {P : Instance} (small : Small P) (e b : ℕ) (board : List ℕ) (ready 
           (lt-or-ge (slot + 1) (P .slots))
 
     -- after a cell
-    closes-tell : Shows b (cells P) (suc (first + core)) t l (closeThen board (walkOn rest board b) first slot (core + 1) sets t l u)
+    after-tells : Shows b (cells P) (suc (first + core)) t l (afterCell grid (walkOn rest grid b) first slot (core + 1) sets t l u)
         (bwalk b (ruleOf e P) (values P) rest (take (suc (first + core)) t) u)
-    closes-tell = ⊎-elim next-core (λ h. go h (closesOn board l slot) refl) (lt-or-ge (core + 1) (P .cores))
+    after-tells = ⊎-elim next-core (λ h. go h (allSettledOn grid l slot) refl) (lt-or-ge (core + 1) (P .cores))
       where
-        go : P .cores ≤ core + 1 → (x : Bool) → closesOn board l slot ≡ x → Shows b (cells P) (suc (first + core)) t l (closeThen board (walkOn rest board b) first slot (core + 1) sets t l u)
+        go : P .cores ≤ core + 1 → (x : Bool) → allSettledOn grid l slot ≡ x → Shows b (cells P) (suc (first + core)) t l (afterCell grid (walkOn rest grid b) first slot (core + 1) sets t l u)
             (bwalk b (ruleOf e P) (values P) rest (take (suc (first + core)) t) u)
         go h false z = starved-slot h z
-        go h true z = closed-slot h z
+        go h true z = settled-slot h z
 
   -- the walk from any cell
   walk-goes : (k : ℕ) → Goes k
   unfolding Goes walkOn Tells
   walk-goes zero first slot core sets t l stands u lu ek = absurd (omega (arith, cell-in stands))
   walk-goes (suc rest) first slot core sets t l stands u lu ek =
-      shows-same {s = tryFrom board b first slot core sets (closeThen board (walkOn rest board b) first slot (core + 1)) (P .tasks) (floorOn board t first core) t l 0 0 u}
-      (ap (λ n. tryFrom board b first slot core sets (closeThen board (walkOn rest board b) first slot (core + 1)) n (floorOn board t first core) t l 0 0 u) (ready .tasks)) refl
-      (cell-tells stands rest (closeThen board (walkOn rest board b) first slot (core + 1))
-      (λ sets₁ t₁ l₁ u₁ after lu₁. closes-tell rest (walk-goes rest) (stands .first-is) (stands .slot-in) (stands .core-in) (omega arith) sets₁ t₁ l₁ after u₁ lu₁) u lu)
+      shows-same {s = tryFrom grid b first slot core sets (afterCell grid (walkOn rest grid b) first slot (core + 1)) (P .tasks) (floorOn grid t first core) t l 0 0 u}
+      (ap (λ n. tryFrom grid b first slot core sets (afterCell grid (walkOn rest grid b) first slot (core + 1)) n (floorOn grid t first core) t l 0 0 u) (ready .tasks)) refl
+      (cell-tells stands rest (afterCell grid (walkOn rest grid b) first slot (core + 1))
+      (λ sets₁ t₁ l₁ u₁ after lu₁. after-tells rest (walk-goes rest) (stands .first-is) (stands .slot-in) (stands .core-in) (omega arith) sets₁ t₁ l₁ after u₁ lu₁) u lu)
 
   -- before the first cell no job ends
-  closed-start : (f : ℕ → ℕ) → closed P 0 f ≡ true
-  unfolding closed settled
-  closed-start f = all-true (P .tasks) _ (λ i li. all-true (P .jobs (suc i)) _ (λ k lk.
+  settled-start : (f : ℕ → ℕ) → allSettled P 0 f ≡ true
+  unfolding allSettled settled
+  settled-start f = all-true (P .tasks) _ (λ i li. all-true (P .jobs (suc i)) _ (λ k lk.
       rw (ne-eqb (suc (jobEnd P (suc i) k) * P .cores) 0 (λ z. omega (arith, mul-pos {m = suc (jobEnd P (suc i) k)} {n = P .cores} (omega arith) (small .regular .some-core))))))
 
   -- the walk over the whole table, with u tries counted before it, is the engine's under the limit
   pub walk-limited : (t l : List ℕ) → Lefts P 0 (nth t) l → cells P ≤ length t → length l ≡ 32768 → (u : ℕ) → u ≤ b
-      → Shows b (cells P) 0 t l (walkOn (cells P) board b 0 0 0 (setsOn board l 0) t l u) (limited b (spend u (walked e P)))
+      → Shows b (cells P) 0 t l (walkOn (cells P) grid b 0 0 0 (setsOn grid l 0) t l u) (limited b (spend u (walked e P)))
   unfolding Goes
   walk-limited t l lefts long wide u lu = shows-same refl (sym (bwalk-from b (ruleOf e P) (values P) (cells P) [] u lu)) (go (cells P) (omega arith) some)
     where
       some : 0 < cells P
       some = mul-pos (small .regular .some-slot) (small .regular .some-core)
 
-      stands : Before P 0 0 0 (setsOn board l 0) t l
+      stands : Before P 0 0 0 (setsOn grid l 0) t l
       stands = record {
         first-is = omega arith;
         slot-in = small .regular .some-slot;
@@ -511,6 +511,6 @@ module _ {P : Instance} (small : Small P) (e b : ℕ) (board : List ℕ) (ready 
         wide = wide;
       }
 
-      go : (k : ℕ) → k + (0 + 0) ≡ cells P → 0 < k → Shows b (cells P) 0 t l (walkOn k board b 0 0 0 (setsOn board l 0) t l u) (bwalk b (ruleOf e P) (values P) k [] u)
+      go : (k : ℕ) → k + (0 + 0) ≡ cells P → 0 < k → Shows b (cells P) 0 t l (walkOn k grid b 0 0 0 (setsOn grid l 0) t l u) (bwalk b (ruleOf e P) (values P) k [] u)
       go zero ek pos = absurd (omega arith)
-      go (suc k) ek pos = shows-same refl (bwalk-in k [] u (closes-prefix P e 0 t (omega arith) ∙ closed-start (nth t))) (walk-goes (suc k) 0 0 0 (setsOn board l 0) t l stands u lu ek)
+      go (suc k) ek pos = shows-same refl (bwalk-in k [] u (goes-prefix P e 0 t (omega arith) ∙ settled-start (nth t))) (walk-goes (suc k) 0 0 0 (setsOn grid l 0) t l stands u lu ek)

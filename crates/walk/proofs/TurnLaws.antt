@@ -16,27 +16,27 @@ use Rattle.laws.specs.Lists.{nth}
 use lib.Count.{trailing-of-zero}
 use Rattle.sets.specs.Sets.{has, ofCore, lowest, without, Alone}
 use Rattle.sets.proofs.SetLaws.{none-has, of-core-has, of-core-alone, of-core-lt, without-has, without-alone, without-lt, lowest-in, lowest-first}
-use Rattle.board.proofs.ReadLaws.{sets-none}
-use Rattle.board.specs.Board.{counterOn, rateOn, evenOn, tasksOn, coresOn, slotsOn, cellsOn, setsOn, floorOn, closesOn, Fits}
-use Rattle.walk.specs.Machine.{End, Found, Nothing, Stopped, packed, State, state, Onward, orElse, idleLast, placed, tryFrom, closeThen, walkOn, Stands, firstOn, cellsLeft, full, Leaves, Ran, Closed}
+use Rattle.grid.proofs.ReadLaws.{sets-none}
+use Rattle.grid.specs.Grid.{counterOn, rateOn, evenOn, tasksOn, coresOn, slotsOn, cellsOn, setsOn, floorOn, allSettledOn, OnGrid}
+use Rattle.walk.specs.Machine.{End, Found, NoneFound, Stopped, walkNumber, State, state, Onward, unlessEnded, idleLast, placed, tryFrom, afterCell, walkOn, Stands, firstOn, cellsLeft, full, Leaves, Ran, RanAfter}
 
 -- ---- where the walk stands
-module _ {board : List ℕ} (place : ℕ) (fits : Fits board (place / 4)) where
+module _ {grid : List ℕ} (place : ℕ) (fits : OnGrid grid (place / 4)) where
   -- the slot's cells are among the table's
-  pub slot-cells : firstOn board place + coresOn board ≤ cellsOn board
-  slot-cells = omega (arith, mul-le-mul-right (coresOn board) (fits .slot-in))
+  pub slot-cells : firstOn grid place + coresOn grid ≤ cellsOn grid
+  slot-cells = omega (arith, mul-le-mul-right (coresOn grid) (fits .slot-in))
 
   -- and the table's are 4096 at most
-  pub in-table : place % 4 < coresOn board → firstOn board place + place % 4 < 4096
-  in-table l = omega (arith, slot-cells, mul-le-mul-right (coresOn board) (fits .slots), fits .cores)
+  pub in-table : place % 4 < coresOn grid → firstOn grid place + place % 4 < 4096
+  in-table l = omega (arith, slot-cells, mul-le-mul-right (coresOn grid) (fits .slots), fits .cores)
 
 -- the first cell of a slot, with the number of cores as it was read
-module _ (board : List ℕ) (place : ℕ) {m : ℕ} (e : m ≡ coresOn board) where
-  pub first-at : place / 4 * m ≡ firstOn board place
+module _ (grid : List ℕ) (place : ℕ) {m : ℕ} (e : m ≡ coresOn grid) where
+  pub first-at : place / 4 * m ≡ firstOn grid place
   first-at = ap (λ x. place / 4 * x) e
 
   -- a cell of the slot is in the table
-  pub cell-in : Fits board (place / 4) → place % 4 < coresOn board → place / 4 * m + place % 4 < 4096
+  pub cell-in : OnGrid grid (place / 4) → place % 4 < coresOn grid → place / 4 * m + place % 4 < 4096
   cell-in fits l = omega (arith, first-at, in-table place fits l)
 
 -- a test does not pass and fail
@@ -44,120 +44,120 @@ apart : _≡_ {A = Bool} true false → ⊥
 apart e = let y : _≡_ {A = ℕ} 0 1 = cc in omega arith
 
 -- a walk that has ended stays as it is
-pub or-else-stays : (e : End) (r : State) (k : State → State) → (e ≡ Nothing → ⊥) → orElse e r k ≡ r
+pub or-else-stays : (e : End) (r : State) (k : State → State) → (e ≡ NoneFound → ⊥) → unlessEnded e r k ≡ r
 or-else-stays Found r k x = refl
-or-else-stays Nothing r k x = absurd (x refl)
+or-else-stays NoneFound r k x = absurd (x refl)
 or-else-stays Stopped r k x = refl
 
 -- ---- an end and the tries in one number
 -- nothing is found
-pub packed-nothing : (e : End) (u r : ℕ) → r ≡ packed e u → r < 4294967296 → (e ≡ Nothing) × (u ≡ r)
-unfolding packed
+pub packed-nothing : (e : End) (u r : ℕ) → r ≡ walkNumber e u → r < 4294967296 → (e ≡ NoneFound) × (u ≡ r)
+unfolding walkNumber
 packed-nothing Found u r h l = absurd (omega arith)
-packed-nothing Nothing u r h l = (refl, sym h)
+packed-nothing NoneFound u r h l = (refl, sym h)
 packed-nothing Stopped u r h l = absurd (omega arith)
 
 -- a table is found
-pub packed-found : (e : End) (u r : ℕ) → r ≡ packed e u → u < 4294967296 → 4294967296 ≤ r → r < 8589934592 → (e ≡ Found) × (u ≡ r % 4294967296)
-unfolding packed
+pub packed-found : (e : End) (u r : ℕ) → r ≡ walkNumber e u → u < 4294967296 → 4294967296 ≤ r → r < 8589934592 → (e ≡ Found) × (u ≡ r % 4294967296)
+unfolding walkNumber
 packed-found Found u r h s f l = (refl, omega arith)
-packed-found Nothing u r h s f l = absurd (omega arith)
+packed-found NoneFound u r h s f l = absurd (omega arith)
 packed-found Stopped u r h s f l = absurd (omega arith)
 
 -- the walk is stopped
-pub packed-stopped : (e : End) (u r : ℕ) → r ≡ packed e u → u < 4294967296 → 8589934592 ≤ r → (e ≡ Stopped) × (u ≡ r % 4294967296)
-unfolding packed
+pub packed-stopped : (e : End) (u r : ℕ) → r ≡ walkNumber e u → u < 4294967296 → 8589934592 ≤ r → (e ≡ Stopped) × (u ≡ r % 4294967296)
+unfolding walkNumber
 packed-stopped Found u r h s f = absurd (omega arith)
-packed-stopped Nothing u r h s f = absurd (omega arith)
+packed-stopped NoneFound u r h s f = absurd (omega arith)
 packed-stopped Stopped u r h s f = (refl, omega arith)
 
 -- the walk has ended
-packed-ended : (e : End) (u r : ℕ) → r ≡ packed e u → u < 4294967296 → 4294967296 ≤ r → e ≡ Nothing → ⊥
-unfolding packed
-packed-ended e u r h s f n = let same : r ≡ u = h ∙ ap (λ e. packed e u) n in omega arith
+packed-ended : (e : End) (u r : ℕ) → r ≡ walkNumber e u → u < 4294967296 → 4294967296 ≤ r → e ≡ NoneFound → ⊥
+unfolding walkNumber
+packed-ended e u r h s f n = let same : r ≡ u = h ∙ ap (λ e. walkNumber e u) n in omega arith
 
 -- an equal state is told alike
 leaves-same : {limit : ℕ} {s s′ : State} {r : ℕ} {t l : List ℕ} → s ≡ s′ → Leaves limit s r t l → Leaves limit s′ r t l
 leaves-same {limit} {r = r} {t = t} {l = l} e h = subst (λ s. Leaves limit s r t l) e h
 
 -- a state that is told by its own parts
-told : {limit : ℕ} (e : End) (t l : List ℕ) (u : ℕ) → u ≤ limit → Leaves limit (state e t l u) (packed e u) t l
+told : {limit : ℕ} (e : End) (t l : List ℕ) (u : ℕ) → u ≤ limit → Leaves limit (state e t l u) (walkNumber e u) t l
 told e t l u m = record { answer = refl; table = refl; left = refl; most = m }
 
 -- ---- one value
-module _ (board : List ℕ) (limit first slot core sets : ℕ) (next : Onward) (j floor : ℕ) (t l : List ℕ) (v barred u : ℕ) where
+module _ (grid : List ℕ) (limit first slot core sets : ℕ) (next : Onward) (j floor : ℕ) (t l : List ℕ) (v barred u : ℕ) where
   -- it may not stand there
   pub skip : has sets v core ≡ false
-      → tryFrom board limit first slot core sets next (suc j) floor t l v barred u ≡ tryFrom board limit first slot core sets next j floor t l (v + 1) barred u
+      → tryFrom grid limit first slot core sets next (suc j) floor t l v barred u ≡ tryFrom grid limit first slot core sets next j floor t l (v + 1) barred u
   unfolding tryFrom
   skip h = rw h
 
   module _ (p : has sets v core ≡ true) where
     -- rule B bars it
     pub barred-by-B : v + 1 < floor
-        → tryFrom board limit first slot core sets next (suc j) floor t l v barred u ≡ tryFrom board limit first slot core sets next j floor t l (v + 1) (barred + evenOn board v) u
+        → tryFrom grid limit first slot core sets next (suc j) floor t l v barred u ≡ tryFrom grid limit first slot core sets next j floor t l (v + 1) (barred + evenOn grid v) u
     unfolding tryFrom
     barred-by-B h = rw (p, lt-leb floor (v + 1) h)
 
     module _ (h : floor ≤ v + 1) where
       -- the limit is used up
-      pub stop : u ≡ limit → tryFrom board limit first slot core sets next (suc j) floor t l v barred u ≡ state Stopped t l u
+      pub stop : u ≡ limit → tryFrom grid limit first slot core sets next (suc j) floor t l v barred u ≡ state Stopped t l u
       unfolding tryFrom
       stop e = rw (p, le-leb floor (v + 1) h, eq-eqb u limit e)
 
-      module _ (e : u ≢ limit) (r : State) (is : placed board limit first slot core sets next t l v u ≡ r) where
-        pub tried : tryFrom board limit first slot core sets next (suc j) floor t l v barred u
-            ≡ orElse (r .end) r (λ s. tryFrom board limit first slot core sets next j floor (s .table) (set (s .left) (counterOn board slot v) (nth l (counterOn board slot v))) (v + 1) (barred + evenOn board v) (s .tries))
+      module _ (e : u ≢ limit) (r : State) (is : placed grid limit first slot core sets next t l v u ≡ r) where
+        pub tried : tryFrom grid limit first slot core sets next (suc j) floor t l v barred u
+            ≡ unlessEnded (r .end) r (λ s. tryFrom grid limit first slot core sets next j floor (s .table) (set (s .left) (counterOn grid slot v) (nth l (counterOn grid slot v))) (v + 1) (barred + evenOn grid v) (s .tries))
         unfolding tryFrom
         tried = rw (p, le-leb floor (v + 1) h, ne-eqb u limit e, is)
 
         -- nothing is found below it
-        pub back : r .end ≡ Nothing → tryFrom board limit first slot core sets next (suc j) floor t l v barred u
-            ≡ tryFrom board limit first slot core sets next j floor (r .table) (set (r .left) (counterOn board slot v) (nth l (counterOn board slot v))) (v + 1) (barred + evenOn board v) (r .tries)
-        back n = tried ∙ ap (λ (x : End). orElse x r (λ s. tryFrom board limit first slot core sets next j floor (s .table) (set (s .left) (counterOn board slot v) (nth l (counterOn board slot v))) (v + 1) (barred + evenOn board v) (s .tries))) n
+        pub back : r .end ≡ NoneFound → tryFrom grid limit first slot core sets next (suc j) floor t l v barred u
+            ≡ tryFrom grid limit first slot core sets next j floor (r .table) (set (r .left) (counterOn grid slot v) (nth l (counterOn grid slot v))) (v + 1) (barred + evenOn grid v) (r .tries)
+        back n = tried ∙ ap (λ (x : End). unlessEnded x r (λ s. tryFrom grid limit first slot core sets next j floor (s .table) (set (s .left) (counterOn grid slot v) (nth l (counterOn grid slot v))) (v + 1) (barred + evenOn grid v) (s .tries))) n
 
         -- the walk ends below it
-        stays : (r .end ≡ Nothing → ⊥) → tryFrom board limit first slot core sets next (suc j) floor t l v barred u ≡ r
+        stays : (r .end ≡ NoneFound → ⊥) → tryFrom grid limit first slot core sets next (suc j) floor t l v barred u ≡ r
         stays x = tried ∙ or-else-stays (r .end) r _ x
 
 -- values that may not stand there
-pub skips-to : (board : List ℕ) (limit first slot core sets : ℕ) (next : Onward) (floor : ℕ) (t l : List ℕ) (barred u z j v : ℕ)
+pub skips-to : (grid : List ℕ) (limit first slot core sets : ℕ) (next : Onward) (floor : ℕ) (t l : List ℕ) (barred u z j v : ℕ)
     → ((w : ℕ) → v ≤ w → w < v + z → has sets w core ≡ false)
-    → tryFrom board limit first slot core sets next (j + z) floor t l v barred u ≡ tryFrom board limit first slot core sets next j floor t l (v + z) barred u
-skips-to board limit first slot core sets next floor t l barred u zero j v h = λ i. tryFrom board limit first slot core sets next (add-zero j i) floor t l (sym (add-zero v) i) barred u
-skips-to board limit first slot core sets next floor t l barred u (suc z) j v h =
-    ap (λ k. tryFrom board limit first slot core sets next k floor t l v barred u) (add-suc j z)
-    ∙ skip board limit first slot core sets next (j + z) floor t l v barred u (h v (omega arith) (omega arith))
-    ∙ skips-to board limit first slot core sets next floor t l barred u z j (v + 1) (λ w a b. h w (omega arith) (omega arith))
-    ∙ ap (λ x. tryFrom board limit first slot core sets next j floor t l x barred u) (omega arith)
+    → tryFrom grid limit first slot core sets next (j + z) floor t l v barred u ≡ tryFrom grid limit first slot core sets next j floor t l (v + z) barred u
+skips-to grid limit first slot core sets next floor t l barred u zero j v h = λ i. tryFrom grid limit first slot core sets next (add-zero j i) floor t l (sym (add-zero v) i) barred u
+skips-to grid limit first slot core sets next floor t l barred u (suc z) j v h =
+    ap (λ k. tryFrom grid limit first slot core sets next k floor t l v barred u) (add-suc j z)
+    ∙ skip grid limit first slot core sets next (j + z) floor t l v barred u (h v (omega arith) (omega arith))
+    ∙ skips-to grid limit first slot core sets next floor t l barred u z j (v + 1) (λ w a b. h w (omega arith) (omega arith))
+    ∙ ap (λ x. tryFrom grid limit first slot core sets next j floor t l x barred u) (omega arith)
 
 -- what walks on from the cell after the core
 abbrev pub onward : List ℕ → ℕ → Onward
-onward board place = closeThen board (walkOn (cellsLeft board place) board full) (firstOn board place) (place / 4) (place % 4 + 1)
+onward grid place = afterCell grid (walkOn (cellsLeft grid place) grid full) (firstOn grid place) (place / 4) (place % 4 + 1)
 
 -- the values of the cell of a place, from v on
 abbrev pub still : List ℕ → ℕ → ℕ → ℕ → ℕ → List ℕ → List ℕ → ℕ → ℕ → ℕ → State
-still board place sets j floor t l v barred u = tryFrom board full (firstOn board place) (place / 4) (place % 4) sets (onward board place) j floor t l v barred u
+still grid place sets j floor t l v barred u = tryFrom grid full (firstOn grid place) (place / 4) (place % 4) sets (onward grid place) j floor t l v barred u
 
 -- the loop over the values of a cell: the tasks in `rest`, none of them before `next`, are still to be tried, and this gives what the whole walk gives
-pub record Turn (board : List ℕ) (place sets first : ℕ) (t₀ l₀ : List ℕ) (tries floor : ℕ) (t l : List ℕ) (used barred rest : ℕ) : Type 0 where
-  pub stands : Stands board place sets
-  pub first-is : first ≡ firstOn board place
+pub record Turn (grid : List ℕ) (place sets first : ℕ) (t₀ l₀ : List ℕ) (tries floor : ℕ) (t l : List ℕ) (used barred rest : ℕ) : Type 0 where
+  pub stands : Stands grid place sets
+  pub first-is : first ≡ firstOn grid place
   pub next : ℕ
-  pub next-in : next ≤ tasksOn board
+  pub next-in : next ≤ tasksOn grid
   pub alone : Alone rest
   pub few : rest < 2 ^ 64
   pub rest-is : (v : ℕ) → next ≤ v → v < 16 → has rest v 0 ≡ has sets v (place % 4)
   pub none-before : (v : ℕ) → v < next → has rest v 0 ≡ false
   pub most : used ≤ full
   pub bar : barred ≤ 65535 * next
-  pub same : walkOn (suc (cellsLeft board place)) board full (firstOn board place) (place / 4) (place % 4) sets t₀ l₀ tries
-      ≡ still board place sets (tasksOn board - next) floor t l next barred used
+  pub same : walkOn (suc (cellsLeft grid place)) grid full (firstOn grid place) (place / 4) (place % 4) sets t₀ l₀ tries
+      ≡ still grid place sets (tasksOn grid - next) floor t l next barred used
 
-module _ {board : List ℕ} {place sets first : ℕ} {t₀ l₀ : List ℕ} {tries floor : ℕ} where
+module _ {grid : List ℕ} {place sets first : ℕ} {t₀ l₀ : List ℕ} {tries floor : ℕ} where
   -- before the first value
-  pub begins : Stands board place sets → first ≡ firstOn board place → {rest : ℕ} → rest ≡ ofCore sets (place % 4) → floor ≡ floorOn board t₀ first (place % 4) → tries ≤ full
-      → Turn board place sets first t₀ l₀ tries floor t₀ l₀ tries 0 rest
+  pub begins : Stands grid place sets → first ≡ firstOn grid place → {rest : ℕ} → rest ≡ ofCore sets (place % 4) → floor ≡ floorOn grid t₀ first (place % 4) → tries ≤ full
+      → Turn grid place sets first t₀ l₀ tries floor t₀ l₀ tries 0 rest
   unfolding walkOn
   begins s e er ef m = record {
     stands = s;
@@ -170,11 +170,11 @@ module _ {board : List ℕ} {place sets first : ℕ} {t₀ l₀ : List ℕ} {tri
     none-before = λ v l. absurd (omega arith);
     most = m;
     bar = omega arith;
-    same = ap (λ k. still board place sets k (floorOn board t₀ (firstOn board place) (place % 4)) t₀ l₀ 0 0 tries) (omega arith)
-        ∙ ap (λ f. still board place sets (tasksOn board - 0) f t₀ l₀ 0 0 tries) (sym (ef ∙ ap (λ x. floorOn board t₀ x (place % 4)) e));
+    same = ap (λ k. still grid place sets k (floorOn grid t₀ (firstOn grid place) (place % 4)) t₀ l₀ 0 0 tries) (omega arith)
+        ∙ ap (λ f. still grid place sets (tasksOn grid - 0) f t₀ l₀ 0 0 tries) (sym (ef ∙ ap (λ x. floorOn grid t₀ x (place % 4)) e));
   }
 
-  module _ {t l : List ℕ} {used barred rest : ℕ} (turn : Turn board place sets first t₀ l₀ tries floor t l used barred rest) where
+  module _ {t l : List ℕ} {used barred rest : ℕ} (turn : Turn grid place sets first t₀ l₀ tries floor t l used barred rest) where
     -- what was seen to bar idle is a number
     pub bar-few : barred ≤ 1048560
     bar-few = omega (arith, turn .bar, turn .next-in, turn .stands .fits .tasks)
@@ -200,8 +200,8 @@ module _ {board : List ℕ} {place sets first : ℕ} {t₀ l₀ : List ℕ} {tri
       may = sym (turn .rest-is task not-before (there .0)) ∙ there .1
 
       -- it is one of the list's
-      task-in : task < tasksOn board
-      task-in = elim (lt-or-ge task (tasksOn board)) [
+      task-in : task < tasksOn grid
+      task-in = elim (lt-or-ge task (tasksOn grid)) [
         | inl h ↦ h
         | inr h ↦ absurd (apart (sym may ∙ turn .stands .within task (place % 4) h (omega (arith, turn .stands .core-in, turn .stands .fits .cores))))
       ]
@@ -210,15 +210,15 @@ module _ {board : List ℕ} {place sets first : ℕ} {t₀ l₀ : List ℕ} {tri
       task-few = there .0
 
       -- those between may not
-      values : walkOn (suc (cellsLeft board place)) board full (firstOn board place) (place / 4) (place % 4) sets t₀ l₀ tries
-          ≡ still board place sets (suc (tasksOn board - (task + 1))) floor t l task barred used
+      values : walkOn (suc (cellsLeft grid place)) grid full (firstOn grid place) (place / 4) (place % 4) sets t₀ l₀ tries
+          ≡ still grid place sets (suc (tasksOn grid - (task + 1))) floor t l task barred used
       values = turn .same
-          ∙ ap (λ k. still board place sets k floor t l (turn .next) barred used) count
-          ∙ skips-to board full (firstOn board place) (place / 4) (place % 4) sets (onward board place) floor t l barred used (task - turn .next) (suc (tasksOn board - (task + 1))) (turn .next)
+          ∙ ap (λ k. still grid place sets k floor t l (turn .next) barred used) count
+          ∙ skips-to grid full (firstOn grid place) (place / 4) (place % 4) sets (onward grid place) floor t l barred used (task - turn .next) (suc (tasksOn grid - (task + 1))) (turn .next)
           (λ w a b. let h : w < task = omega (arith, not-before) in sym (turn .rest-is w a (omega (arith, there .0))) ∙ first-there w h)
-          ∙ ap (λ v. still board place sets (suc (tasksOn board - (task + 1))) floor t l v barred used) (omega (arith, not-before))
+          ∙ ap (λ v. still grid place sets (suc (tasksOn grid - (task + 1))) floor t l v barred used) (omega (arith, not-before))
         where
-          count : tasksOn board - turn .next ≡ suc (tasksOn board - (task + 1)) + (task - turn .next)
+          count : tasksOn grid - turn .next ≡ suc (tasksOn grid - (task + 1)) + (task - turn .next)
           count = omega (arith, not-before, task-in)
 
       module _ {rest′ : ℕ} (er : rest′ ≡ without rest task) where
@@ -240,12 +240,12 @@ module _ {board : List ℕ} {place sets first : ℕ} {t₀ l₀ : List ℕ} {tri
           ]
         ]
 
-        module _ {even : ℕ} (ee : even ≡ evenOn board task) (small : even ≤ 65535) where
+        module _ {even : ℕ} (ee : even ≡ evenOn grid task) (small : even ≤ 65535) where
           -- a turn with the task tried or passed over
           after : (t′ l′ : List ℕ) (used′ : ℕ) → used′ ≤ full
-              → walkOn (suc (cellsLeft board place)) board full (firstOn board place) (place / 4) (place % 4) sets t₀ l₀ tries
-              ≡ still board place sets (tasksOn board - (task + 1)) floor t′ l′ (task + 1) (barred + even) used′
-              → Turn board place sets first t₀ l₀ tries floor t′ l′ used′ (barred + even) rest′
+              → walkOn (suc (cellsLeft grid place)) grid full (firstOn grid place) (place / 4) (place % 4) sets t₀ l₀ tries
+              ≡ still grid place sets (tasksOn grid - (task + 1)) floor t′ l′ (task + 1) (barred + even) used′
+              → Turn grid place sets first t₀ l₀ tries floor t′ l′ used′ (barred + even) rest′
           after t′ l′ used′ m e = record {
             stands = turn .stands;
             first-is = turn .first-is;
@@ -261,82 +261,82 @@ module _ {board : List ℕ} {place sets first : ℕ} {t₀ l₀ : List ℕ} {tri
           }
 
           -- a value that rule B bars
-          pub bars : task + 1 < floor → Turn board place sets first t₀ l₀ tries floor t l used (barred + even) rest′
+          pub bars : task + 1 < floor → Turn grid place sets first t₀ l₀ tries floor t l used (barred + even) rest′
           bars less = after t l used (turn .most)
-              (values ∙ barred-by-B board full (firstOn board place) (place / 4) (place % 4) sets (onward board place) (tasksOn board - (task + 1)) floor t l task barred used may less
-              ∙ ap (λ x. still board place sets (tasksOn board - (task + 1)) floor t l (task + 1) (barred + x) used) (sym ee))
+              (values ∙ barred-by-B grid full (firstOn grid place) (place / 4) (place % 4) sets (onward grid place) (tasksOn grid - (task + 1)) floor t l task barred used may less
+              ∙ ap (λ x. still grid place sets (tasksOn grid - (task + 1)) floor t l (task + 1) (barred + x) used) (sym ee))
 
           -- a value that is put into the cell: the work left is less by its rate, and the walk goes on with the slot's next core
-          module _ (low : floor ≤ task + 1) (q : used ≢ full) {k rate had : ℕ} (ek : k ≡ counterOn board (place / 4) task) (eo : rate ≡ rateOn board task (place % 4)) (eh : had ≡ nth l k)
+          module _ (low : floor ≤ task + 1) (q : used ≢ full) {k rate had : ℕ} (ek : k ≡ counterOn grid (place / 4) task) (eo : rate ≡ rateOn grid task (place % 4)) (eh : had ≡ nth l k)
               {l₁ : List ℕ} (el : l₁ ≡ set l k (nth l k - rate)) {sets₁ : ℕ} (es : sets₁ ≡ without sets task) {r : ℕ} {t′ l′ : List ℕ}
-              (ran : Closed board place sets₁ (set t (first + place % 4) (task + 1)) l₁ (used + 1) r t′ l′) where
+              (ran : RanAfter grid place sets₁ (set t (first + place % 4) (task + 1)) l₁ (used + 1) r t′ l′) where
             below : State
-            below = onward board place sets₁ (set t (first + place % 4) (task + 1)) l₁ (used + 1)
+            below = onward grid place sets₁ (set t (first + place % 4) (task + 1)) l₁ (used + 1)
 
-            went : placed board full (firstOn board place) (place / 4) (place % 4) sets (onward board place) t l task used ≡ below
+            went : placed grid full (firstOn grid place) (place / 4) (place % 4) sets (onward grid place) t l task used ≡ below
             unfolding placed below
-            went = sym (λ i. onward board place (es i) (set t (turn .first-is i + place % 4) (task + 1)) ((el ∙ (λ j. set l (ek j) (nth l (ek j) - eo j))) i) (used + 1))
+            went = sym (λ i. onward grid place (es i) (set t (turn .first-is i + place % 4) (task + 1)) ((el ∙ (λ j. set l (ek j) (nth l (ek j) - eo j))) i) (used + 1))
 
             -- it comes back with nothing, and the counter is given back what it was
-            pub backs : r < 4294967296 → {l″ : List ℕ} → l″ ≡ set l′ k had → Turn board place sets first t₀ l₀ tries floor t′ l″ r (barred + even) rest′
+            pub backs : r < 4294967296 → {l″ : List ℕ} → l″ ≡ set l′ k had → Turn grid place sets first t₀ l₀ tries floor t′ l″ r (barred + even) rest′
             unfolding below
             backs small-r {l″} eb = after t′ l″ r (omega (arith, ran .leaves .most, nothing .1))
-                (values ∙ back board full (firstOn board place) (place / 4) (place % 4) sets (onward board place) (tasksOn board - (task + 1)) floor t l task barred used may low q below went (nothing .0)
-                ∙ (λ i. still board place sets (tasksOn board - (task + 1)) floor (sym (ran .leaves .table) i) (given i) (task + 1) (barred + sym ee i) (nothing .1 i)))
+                (values ∙ back grid full (firstOn grid place) (place / 4) (place % 4) sets (onward grid place) (tasksOn grid - (task + 1)) floor t l task barred used may low q below went (nothing .0)
+                ∙ (λ i. still grid place sets (tasksOn grid - (task + 1)) floor (sym (ran .leaves .table) i) (given i) (task + 1) (barred + sym ee i) (nothing .1 i)))
               where
-                nothing : (below .end ≡ Nothing) × (below .tries ≡ r)
+                nothing : (below .end ≡ NoneFound) × (below .tries ≡ r)
                 nothing = packed-nothing (below .end) (below .tries) r (ran .leaves .answer) small-r
 
-                given : set (below .left) (counterOn board (place / 4) task) (nth l (counterOn board (place / 4) task)) ≡ l″
+                given : set (below .left) (counterOn grid (place / 4) task) (nth l (counterOn grid (place / 4) task)) ≡ l″
                 given = (λ i. set (sym (ran .leaves .left) i) (sym ek i) (nth l (sym ek i))) ∙ ap (set l′ k) (sym eh) ∙ sym eb
 
             -- it comes back with an end
-            pub ends : 4294967296 ≤ r → Ran board place sets t₀ l₀ tries r t′ l′
+            pub ends : 4294967296 ≤ r → Ran grid place sets t₀ l₀ tries r t′ l′
             unfolding below
             ends big = record {
-              leaves = leaves-same (sym (values ∙ stays board full (firstOn board place) (place / 4) (place % 4) sets (onward board place) (tasksOn board - (task + 1)) floor t l task barred used may low q below went
+              leaves = leaves-same (sym (values ∙ stays grid full (firstOn grid place) (place / 4) (place % 4) sets (onward grid place) (tasksOn grid - (task + 1)) floor t l task barred used may low q below went
                   (packed-ended (below .end) (below .tries) r (ran .leaves .answer) (omega (arith, ran .leaves .most)) big))) (ran .leaves);
             }
 
       -- a value that the limit does not allow
-      pub stops : floor ≤ task + 1 → used ≡ full → Ran board place sets t₀ l₀ tries (8589934592 + used) t l
-      unfolding packed
+      pub stops : floor ≤ task + 1 → used ≡ full → Ran grid place sets t₀ l₀ tries (8589934592 + used) t l
+      unfolding walkNumber
       stops low q = record {
-        leaves = leaves-same (sym (values ∙ stop board full (firstOn board place) (place / 4) (place % 4) sets (onward board place) (tasksOn board - (task + 1)) floor t l task barred used may low q)) (told Stopped t l used (turn .most));
+        leaves = leaves-same (sym (values ∙ stop grid full (firstOn grid place) (place / 4) (place % 4) sets (onward grid place) (tasksOn grid - (task + 1)) floor t l task barred used may low q)) (told Stopped t l used (turn .most));
       }
 
     -- after the last task: idle
     module _ (over : rest ≡ 0) where
-      last : walkOn (suc (cellsLeft board place)) board full (firstOn board place) (place / 4) (place % 4) sets t₀ l₀ tries
-          ≡ idleLast board full (firstOn board place) (place / 4) (place % 4) sets (onward board place) t l barred used
+      last : walkOn (suc (cellsLeft grid place)) grid full (firstOn grid place) (place / 4) (place % 4) sets t₀ l₀ tries
+          ≡ idleLast grid full (firstOn grid place) (place / 4) (place % 4) sets (onward grid place) t l barred used
       unfolding tryFrom
       last = turn .same
-          ∙ ap (λ k. still board place sets k floor t l (turn .next) barred used) (sym (zero-add (tasksOn board - turn .next)))
-          ∙ skips-to board full (firstOn board place) (place / 4) (place % 4) sets (onward board place) floor t l barred used (tasksOn board - turn .next) 0 (turn .next)
+          ∙ ap (λ k. still grid place sets k floor t l (turn .next) barred used) (sym (zero-add (tasksOn grid - turn .next)))
+          ∙ skips-to grid full (firstOn grid place) (place / 4) (place % 4) sets (onward grid place) floor t l barred used (tasksOn grid - turn .next) 0 (turn .next)
           (λ w a b. sym (turn .rest-is w a (omega (arith, turn .next-in, turn .stands .fits .tasks))) ∙ ap (λ x. has x w 0) over ∙ none-has w 0)
 
       -- rule A bars it
-      pub idle-barred : barred ≢ 0 → Ran board place sets t₀ l₀ tries used t l
-      unfolding idleLast packed
-      idle-barred x = record { leaves = leaves-same (sym (last ∙ rw (ne-eqb barred 0 x))) (told Nothing t l used (turn .most)) }
+      pub idle-barred : barred ≢ 0 → Ran grid place sets t₀ l₀ tries used t l
+      unfolding idleLast walkNumber
+      idle-barred x = record { leaves = leaves-same (sym (last ∙ rw (ne-eqb barred 0 x))) (told NoneFound t l used (turn .most)) }
 
       -- the limit does not allow it
-      pub idle-stops : barred ≡ 0 → used ≡ full → Ran board place sets t₀ l₀ tries (8589934592 + used) t l
-      unfolding idleLast packed
+      pub idle-stops : barred ≡ 0 → used ≡ full → Ran grid place sets t₀ l₀ tries (8589934592 + used) t l
+      unfolding idleLast walkNumber
       idle-stops z q = record { leaves = leaves-same (sym (last ∙ rw (eq-eqb barred 0 z, eq-eqb used full q))) (told Stopped t l used (turn .most)) }
 
       -- it is put into the cell
       pub idles : barred ≡ 0 → used ≢ full → {r : ℕ} {t′ l′ : List ℕ}
-          → Closed board place sets (set t (first + place % 4) 0) l (used + 1) r t′ l′ → Ran board place sets t₀ l₀ tries r t′ l′
+          → RanAfter grid place sets (set t (first + place % 4) 0) l (used + 1) r t′ l′ → Ran grid place sets t₀ l₀ tries r t′ l′
       unfolding idleLast
       idles z q ran = record {
-        leaves = leaves-same (ap (λ x. onward board place sets (set t (x + place % 4) 0) l (used + 1)) (turn .first-is) ∙ sym (last ∙ rw (eq-eqb barred 0 z, ne-eqb used full q))) (ran .leaves);
+        leaves = leaves-same (ap (λ x. onward grid place sets (set t (x + place % 4) 0) l (used + 1)) (turn .first-is) ∙ sym (last ∙ rw (eq-eqb barred 0 z, ne-eqb used full q))) (ran .leaves);
       }
 
 -- ---- where the walk goes on
-module _ {board : List ℕ} {place sets : ℕ} (stands : Stands board place sets) where
+module _ {grid : List ℕ} {place sets : ℕ} (stands : Stands grid place sets) where
   -- after a task in the cell
-  pub stands-without : {task sets′ : ℕ} → task < 16 → sets′ ≡ without sets task → Stands board place sets′
+  pub stands-without : {task sets′ : ℕ} → task < 16 → sets′ ≡ without sets task → Stands grid place sets′
   stands-without {task} lt es = record {
     fits = stands .fits;
     core-in = stands .core-in;
@@ -348,81 +348,81 @@ module _ {board : List ℕ} {place sets : ℕ} (stands : Stands board place sets
       and-false false = refl
 
   -- at the next core
-  pub stands-core : place % 4 + 1 < coresOn board → Stands board (place + 1) sets
+  pub stands-core : place % 4 + 1 < coresOn grid → Stands grid (place + 1) sets
   stands-core h =
       let same : place / 4 ≡ (place + 1) / 4 = omega (arith, stands .fits .cores) in
-      record { fits = subst (Fits board) same (stands .fits); core-in = omega (arith, stands .fits .cores); within = stands .within }
+      record { fits = subst (OnGrid grid) same (stands .fits); core-in = omega (arith, stands .fits .cores); within = stands .within }
 
   -- at the next slot
-  pub stands-slot : place / 4 + 1 < slotsOn board → (l : List ℕ) (slot : ℕ) {sets′ : ℕ} → sets′ ≡ setsOn board l slot → Stands board ((place / 4 + 1) * 4) sets′
+  pub stands-slot : place / 4 + 1 < slotsOn grid → (l : List ℕ) (slot : ℕ) {sets′ : ℕ} → sets′ ≡ setsOn grid l slot → Stands grid ((place / 4 + 1) * 4) sets′
   stands-slot h l slot es = record {
     fits = record { tasks = stands .fits .tasks; cores = stands .fits .cores; slots = stands .fits .slots; slot-in = omega arith };
     core-in = omega (arith, stands .core-in);
-    within = λ v c n _. ap (λ s. has s v c) es ∙ sets-none board l slot (tasksOn board) 0 v c n;
+    within = λ v c n _. ap (λ s. has s v c) es ∙ sets-none grid l slot (tasksOn grid) 0 v c n;
   }
 
 -- at the first cell
-pub stands-start : (board l : List ℕ) {sets : ℕ} → Fits board 0 → 0 < coresOn board → sets ≡ setsOn board l 0 → Stands board 0 sets
-stands-start board l fits some es = record {
+pub stands-start : (grid l : List ℕ) {sets : ℕ} → OnGrid grid 0 → 0 < coresOn grid → sets ≡ setsOn grid l 0 → Stands grid 0 sets
+stands-start grid l fits some es = record {
   fits = fits;
   core-in = some;
-  within = λ v c n _. ap (λ s. has s v c) es ∙ sets-none board l 0 (tasksOn board) 0 v c n;
+  within = λ v c n _. ap (λ s. has s v c) es ∙ sets-none grid l 0 (tasksOn grid) 0 v c n;
 }
 
 -- ---- after a core
-module _ {board : List ℕ} {place sets : ℕ} (stands : Stands board place sets) where
+module _ {grid : List ℕ} {place sets : ℕ} (stands : Stands grid place sets) where
   -- the slot, the core and the cells left after the next core
-  next-core : place % 4 + 1 < coresOn board → (place / 4 ≡ (place + 1) / 4) × (place % 4 + 1 ≡ (place + 1) % 4)
+  next-core : place % 4 + 1 < coresOn grid → (place / 4 ≡ (place + 1) / 4) × (place % 4 + 1 ≡ (place + 1) % 4)
   next-core h = (omega (arith, stands .fits .cores), omega (arith, stands .fits .cores))
 
-  pub core-left : place % 4 + 1 < coresOn board → cellsLeft board place ≡ suc (cellsLeft board (place + 1))
-  core-left h = omega (arith, slot-cells place (stands .fits), next-core h .1, ap (λ s. s * coresOn board) (next-core h .0))
+  pub core-left : place % 4 + 1 < coresOn grid → cellsLeft grid place ≡ suc (cellsLeft grid (place + 1))
+  core-left h = omega (arith, slot-cells place (stands .fits), next-core h .1, ap (λ s. s * coresOn grid) (next-core h .0))
 
   -- the first cell of the next slot, and the cells left after it
-  slot-first : coresOn board ≤ place % 4 + 1 → firstOn board place + (place % 4 + 1) ≡ firstOn board ((place / 4 + 1) * 4)
+  slot-first : coresOn grid ≤ place % 4 + 1 → firstOn grid place + (place % 4 + 1) ≡ firstOn grid ((place / 4 + 1) * 4)
   slot-first h =
       let slot : place / 4 + 1 ≡ (place / 4 + 1) * 4 / 4 = omega arith in
-      let whole : place % 4 + 1 ≡ coresOn board = omega (arith, stands .core-in) in
-      omega (arith, whole, ap (λ s. s * coresOn board) slot)
+      let whole : place % 4 + 1 ≡ coresOn grid = omega (arith, stands .core-in) in
+      omega (arith, whole, ap (λ s. s * coresOn grid) slot)
 
-  pub slot-left : coresOn board ≤ place % 4 + 1 → place / 4 + 1 < slotsOn board → cellsLeft board place ≡ suc (cellsLeft board ((place / 4 + 1) * 4))
+  pub slot-left : coresOn grid ≤ place % 4 + 1 → place / 4 + 1 < slotsOn grid → cellsLeft grid place ≡ suc (cellsLeft grid ((place / 4 + 1) * 4))
   slot-left h s =
       let core : (place / 4 + 1) * 4 % 4 ≡ 0 = omega arith in
-      let whole : place % 4 + 1 ≡ coresOn board = omega (arith, stands .core-in) in
-      omega (arith, slot-first h, core, whole, stands .core-in, mul-le-mul-right (coresOn board) s)
+      let whole : place % 4 + 1 ≡ coresOn grid = omega (arith, stands .core-in) in
+      omega (arith, slot-first h, core, whole, stands .core-in, mul-le-mul-right (coresOn grid) s)
 
-module _ {board : List ℕ} {place sets : ℕ} {t l : List ℕ} {u : ℕ} (stands : Stands board place sets) where
+module _ {grid : List ℕ} {place sets : ℕ} {t l : List ℕ} {u : ℕ} (stands : Stands grid place sets) where
   -- the walk goes on with k cells left from another place
-  moves : (place′ : ℕ) → cellsLeft board place ≡ suc (cellsLeft board place′) → {first slot core : ℕ} → first ≡ firstOn board place′ → slot ≡ place′ / 4 → core ≡ place′ % 4
-      → {sets′ r : ℕ} {t′ l′ : List ℕ} → Ran board place′ sets′ t l u r t′ l′ → Leaves full (walkOn (cellsLeft board place) board full first slot core sets′ t l u) r t′ l′
-  moves place′ ec ef es eo {sets′} ran = leaves-same (λ i. walkOn (sym ec i) board full (sym ef i) (sym es i) (sym eo i) sets′ t l u) (ran .leaves)
+  moves : (place′ : ℕ) → cellsLeft grid place ≡ suc (cellsLeft grid place′) → {first slot core : ℕ} → first ≡ firstOn grid place′ → slot ≡ place′ / 4 → core ≡ place′ % 4
+      → {sets′ r : ℕ} {t′ l′ : List ℕ} → Ran grid place′ sets′ t l u r t′ l′ → Leaves full (walkOn (cellsLeft grid place) grid full first slot core sets′ t l u) r t′ l′
+  moves place′ ec ef es eo {sets′} ran = leaves-same (λ i. walkOn (sym ec i) grid full (sym ef i) (sym es i) (sym eo i) sets′ t l u) (ran .leaves)
 
   -- there is one more core
-  pub goes-on : place % 4 + 1 < coresOn board → {r : ℕ} {t′ l′ : List ℕ} → Ran board (place + 1) sets t l u r t′ l′ → Closed board place sets t l u r t′ l′
-  unfolding closeThen
+  pub goes-on : place % 4 + 1 < coresOn grid → {r : ℕ} {t′ l′ : List ℕ} → Ran grid (place + 1) sets t l u r t′ l′ → RanAfter grid place sets t l u r t′ l′
+  unfolding afterCell
   goes-on h ran = record {
-    leaves = leaves-same (sym (rw (lt-ltb (place % 4 + 1) (coresOn board) h)))
-        (moves (place + 1) (core-left stands h) (ap (λ s. s * coresOn board) (next-core stands h .0)) (next-core stands h .0) (next-core stands h .1) ran);
+    leaves = leaves-same (sym (rw (lt-ltb (place % 4 + 1) (coresOn grid) h)))
+        (moves (place + 1) (core-left stands h) (ap (λ s. s * coresOn grid) (next-core stands h .0)) (next-core stands h .0) (next-core stands h .1) ran);
   }
 
-  module _ (h : coresOn board ≤ place % 4 + 1) {b : Bool} (e : b ≡ closesOn board l (place / 4)) where
+  module _ (h : coresOn grid ≤ place % 4 + 1) {b : Bool} (e : b ≡ allSettledOn grid l (place / 4)) where
     -- a job is starved
-    pub starved : b ≡ false → u ≤ full → Closed board place sets t l u u t l
-    unfolding closeThen packed
-    starved f m = record { leaves = leaves-same (sym (rw (le-ltb (place % 4 + 1) (coresOn board) h, ← e, f))) (told Nothing t l u m) }
+    pub starved : b ≡ false → u ≤ full → RanAfter grid place sets t l u u t l
+    unfolding afterCell walkNumber
+    starved f m = record { leaves = leaves-same (sym (rw (le-ltb (place % 4 + 1) (coresOn grid) h, ← e, f))) (told NoneFound t l u m) }
 
     -- the table is found
-    pub founds : b ≡ true → slotsOn board ≤ place / 4 + 1 → u ≤ full → Closed board place sets t l u (4294967296 + u) t l
-    unfolding closeThen packed
-    founds f s m = record { leaves = leaves-same (sym (rw (le-ltb (place % 4 + 1) (coresOn board) h, ← e, f, le-ltb (place / 4 + 1) (slotsOn board) s))) (told Found t l u m) }
+    pub founds : b ≡ true → slotsOn grid ≤ place / 4 + 1 → u ≤ full → RanAfter grid place sets t l u (4294967296 + u) t l
+    unfolding afterCell walkNumber
+    founds f s m = record { leaves = leaves-same (sym (rw (le-ltb (place % 4 + 1) (coresOn grid) h, ← e, f, le-ltb (place / 4 + 1) (slotsOn grid) s))) (told Found t l u m) }
 
     -- there is one more slot
-    pub next-slots : b ≡ true → place / 4 + 1 < slotsOn board → {sets′ : ℕ} → sets′ ≡ setsOn board l (place / 4 + 1) → {r : ℕ} {t′ l′ : List ℕ}
-        → Ran board ((place / 4 + 1) * 4) sets′ t l u r t′ l′ → Closed board place sets t l u r t′ l′
-    unfolding closeThen
+    pub next-slots : b ≡ true → place / 4 + 1 < slotsOn grid → {sets′ : ℕ} → sets′ ≡ setsOn grid l (place / 4 + 1) → {r : ℕ} {t′ l′ : List ℕ}
+        → Ran grid ((place / 4 + 1) * 4) sets′ t l u r t′ l′ → RanAfter grid place sets t l u r t′ l′
+    unfolding afterCell
     next-slots f s {sets′} es ran = record {
-      leaves = leaves-same (ap (λ x. walkOn (cellsLeft board place) board full (firstOn board place + (place % 4 + 1)) (place / 4 + 1) 0 x t l u) es
-          ∙ sym (rw (le-ltb (place % 4 + 1) (coresOn board) h, ← e, f, lt-ltb (place / 4 + 1) (slotsOn board) s)))
+      leaves = leaves-same (ap (λ x. walkOn (cellsLeft grid place) grid full (firstOn grid place + (place % 4 + 1)) (place / 4 + 1) 0 x t l u) es
+          ∙ sym (rw (le-ltb (place % 4 + 1) (coresOn grid) h, ← e, f, lt-ltb (place / 4 + 1) (slotsOn grid) s)))
           (moves ((place / 4 + 1) * 4) (slot-left stands h s) (slot-first stands h) slot core ran);
     }
       where
@@ -433,5 +433,5 @@ module _ {board : List ℕ} {place sets : ℕ} {t l : List ℕ} {u : ℕ} (stand
         core = omega arith
 
 -- the same with equal sets
-pub ran-same : {board : List ℕ} {place sets sets′ : ℕ} {t l : List ℕ} {u r : ℕ} {t′ l′ : List ℕ} → sets′ ≡ sets → Ran board place sets′ t l u r t′ l′ → Ran board place sets t l u r t′ l′
-ran-same {board} {place} {t = t} {l = l} {u = u} {r = r} {t′ = t′} {l′ = l′} e = subst (λ s. Ran board place s t l u r t′ l′) e
+pub ran-same : {grid : List ℕ} {place sets sets′ : ℕ} {t l : List ℕ} {u r : ℕ} {t′ l′ : List ℕ} → sets′ ≡ sets → Ran grid place sets′ t l u r t′ l′ → Ran grid place sets t l u r t′ l′
+ran-same {grid} {place} {t = t} {l = l} {u = u} {r = r} {t′ = t′} {l′ = l′} e = subst (λ s. Ran grid place s t l u r t′ l′) e

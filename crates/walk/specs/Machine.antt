@@ -1,4 +1,4 @@
--- The walk on its arrays: a board, a table and the work left.
+-- The walk on its arrays: a grid, a table and the work left.
 -- Assumes nothing.
 use Prim.Native.Nat.{ℕ, zero, suc, _+_, _*_, _-_, _/_, _%_, _≤_, _<_}
 use mathlib.Core.Path.{_≡_}
@@ -8,19 +8,19 @@ use lib.Dec.{leb, ltb, eqb}
 use lib.ListN.{set}
 use Rattle.laws.specs.Lists.{nth}
 use Rattle.sets.specs.Sets.{has, without}
-use Rattle.board.specs.Board.{rateOn, evenOn, tasksOn, coresOn, slotsOn, cellsOn, counterOn, setsOn, floorOn, closesOn, Fits}
+use Rattle.grid.specs.Grid.{rateOn, evenOn, tasksOn, coresOn, slotsOn, cellsOn, counterOn, setsOn, floorOn, allSettledOn, OnGrid}
 
 -- how a walk ends
 pub data End : Type 0 where
   Found : End
-  Nothing : End
+  NoneFound : End
   Stopped : End
 
 -- an end and the tries in one number
-unfoldable pub packed : End → ℕ → ℕ
-packed Found u = 4294967296 + u
-packed Nothing u = u
-packed Stopped u = 8589934592 + u
+unfoldable pub walkNumber : End → ℕ → ℕ
+walkNumber Found u = 4294967296 + u
+walkNumber NoneFound u = u
+walkNumber Stopped u = 8589934592 + u
 
 -- an end, the tries, the table and the work left
 pub record State : Type 0 where
@@ -34,10 +34,10 @@ abbrev pub state : End → List ℕ → List ℕ → ℕ → State
 state e t l u = record { end = e; tries = u; table = t; left = l }
 
 -- go on where there is nothing, else stay
-abbrev pub orElse : End → State → (State → State) → State
-orElse Found r k = r
-orElse Nothing r k = k r
-orElse Stopped r k = r
+abbrev pub unlessEnded : End → State → (State → State) → State
+unlessEnded Found r k = r
+unlessEnded NoneFound r k = k r
+unlessEnded Stopped r k = r
 
 -- a walk onward from the sets of the slot, a table and the work left, with some tries used
 abbrev pub Onward : Type 0
@@ -48,15 +48,15 @@ abbrev pub oneMore : ℕ → List ℕ → List ℕ → ℕ → State → State
 oneMore limit t l u r = cond (eqb u limit) (state Stopped t l u) r
 
 -- the cell of core `core` in the slot: the values v + 1, v + 2, .., j of them, and then idle, with `barred` tasks seen that bar idle
-module _ (board : List ℕ) (limit first slot core sets : ℕ) (next : Onward) where
+module _ (grid : List ℕ) (limit first slot core sets : ℕ) (next : Onward) where
   -- idle, if nothing bars it
   unfoldable pub idleLast : List ℕ → List ℕ → ℕ → ℕ → State
-  idleLast t l barred u = cond (eqb barred 0) (oneMore limit t l u (next sets (set t (first + core) 0) l (u + 1))) (state Nothing t l u)
+  idleLast t l barred u = cond (eqb barred 0) (oneMore limit t l u (next sets (set t (first + core) 0) l (u + 1))) (state NoneFound t l u)
 
   -- task v put into the cell, and on from there
   unfoldable pub placed : List ℕ → List ℕ → ℕ → ℕ → State
   placed t l v u =
-      next (without sets v) (set t (first + core) (v + 1)) (set l (counterOn board slot v) (nth l (counterOn board slot v) - rateOn board v core)) (u + 1)
+      next (without sets v) (set t (first + core) (v + 1)) (set l (counterOn grid slot v) (nth l (counterOn grid slot v) - rateOn grid v core)) (u + 1)
 
   -- the values in order, and idle last
   unfoldable pub tryFrom : ℕ → ℕ → List ℕ → List ℕ → ℕ → ℕ → ℕ → State
@@ -66,37 +66,37 @@ module _ (board : List ℕ) (limit first slot core sets : ℕ) (next : Onward) w
       (cond (leb floor (v + 1))
       (oneMore limit t l u
       (let r = placed t l v u in
-      orElse (r .end) r (λ s. tryFrom j floor (s .table) (set (s .left) (counterOn board slot v) (nth l (counterOn board slot v))) (v + 1) (barred + evenOn board v) (s .tries))))
-      (tryFrom j floor t l (v + 1) (barred + evenOn board v) u))
+      unlessEnded (r .end) r (λ s. tryFrom j floor (s .table) (set (s .left) (counterOn grid slot v) (nth l (counterOn grid slot v))) (v + 1) (barred + evenOn grid v) (s .tries))))
+      (tryFrom j floor t l (v + 1) (barred + evenOn grid v) u))
       (tryFrom j floor t l (v + 1) barred u)
 
 -- from core to core, and from the last core to the next slot, or to the table's end; `walk` goes on from a cell
-unfoldable pub closeThen : List ℕ → (ℕ → ℕ → ℕ → Onward) → ℕ → ℕ → ℕ → Onward
-closeThen board walk first slot core sets t l u =
-    cond (ltb core (coresOn board)) (walk first slot core sets t l u)
-    (cond (closesOn board l slot)
-    (cond (ltb (slot + 1) (slotsOn board)) (walk (first + core) (slot + 1) 0 (setsOn board l (slot + 1)) t l u) (state Found t l u))
-    (state Nothing t l u))
+unfoldable pub afterCell : List ℕ → (ℕ → ℕ → ℕ → Onward) → ℕ → ℕ → ℕ → Onward
+afterCell grid walk first slot core sets t l u =
+    cond (ltb core (coresOn grid)) (walk first slot core sets t l u)
+    (cond (allSettledOn grid l slot)
+    (cond (ltb (slot + 1) (slotsOn grid)) (walk (first + core) (slot + 1) 0 (setsOn grid l (slot + 1)) t l u) (state Found t l u))
+    (state NoneFound t l u))
 
 -- the walk over the k cells left, from the cell of a core
 unfoldable pub walkOn : ℕ → List ℕ → ℕ → ℕ → ℕ → ℕ → Onward
-walkOn zero board limit first slot core sets t l u = state Nothing t l u
-walkOn (suc k) board limit first slot core sets t l u =
-    tryFrom board limit first slot core sets (closeThen board (walkOn k board limit) first slot (core + 1)) (tasksOn board) (floorOn board t first core) t l 0 0 u
+walkOn zero grid limit first slot core sets t l u = state NoneFound t l u
+walkOn (suc k) grid limit first slot core sets t l u =
+    tryFrom grid limit first slot core sets (afterCell grid (walkOn k grid limit) first slot (core + 1)) (tasksOn grid) (floorOn grid t first core) t l 0 0 u
 
 -- where the walk stands: place slot * 4 + core, with the sets of the tasks that may still stand in the slot
-pub record Stands (board : List ℕ) (place sets : ℕ) : Type 0 where
-  pub fits : Fits board (place / 4)
-  pub core-in : place % 4 < coresOn board
-  pub within : (v c : ℕ) → tasksOn board ≤ v → c < 4 → has sets v c ≡ false
+pub record Stands (grid : List ℕ) (place sets : ℕ) : Type 0 where
+  pub fits : OnGrid grid (place / 4)
+  pub core-in : place % 4 < coresOn grid
+  pub within : (v c : ℕ) → tasksOn grid ≤ v → c < 4 → has sets v c ≡ false
 
 -- the first cell of the slot of a place
 abbrev pub firstOn : List ℕ → ℕ → ℕ
-firstOn board place = place / 4 * coresOn board
+firstOn grid place = place / 4 * coresOn grid
 
 -- the cells left after the cell of a place
 abbrev pub cellsLeft : List ℕ → ℕ → ℕ
-cellsLeft board place = cellsOn board - (firstOn board place + (place % 4 + 1))
+cellsLeft grid place = cellsOn grid - (firstOn grid place + (place % 4 + 1))
 
 -- the tries are counted up to here
 abbrev pub full : ℕ
@@ -104,15 +104,15 @@ full = 4294967295
 
 -- a number, a table and the work left tell a state, whose tries are counted
 pub record Leaves (limit : ℕ) (s : State) (r : ℕ) (t l : List ℕ) : Type 0 where
-  pub answer : r ≡ packed (s .end) (s .tries)
+  pub answer : r ≡ walkNumber (s .end) (s .tries)
   pub table : t ≡ s .table
   pub left : l ≡ s .left
   pub most : s .tries ≤ limit
 
 -- what a walk from a cell answers and leaves
-pub record Ran (board : List ℕ) (place sets : ℕ) (t l : List ℕ) (u r : ℕ) (t′ l′ : List ℕ) : Type 0 where
-  pub leaves : Leaves full (walkOn (suc (cellsLeft board place)) board full (firstOn board place) (place / 4) (place % 4) sets t l u) r t′ l′
+pub record Ran (grid : List ℕ) (place sets : ℕ) (t l : List ℕ) (u r : ℕ) (t′ l′ : List ℕ) : Type 0 where
+  pub leaves : Leaves full (walkOn (suc (cellsLeft grid place)) grid full (firstOn grid place) (place / 4) (place % 4) sets t l u) r t′ l′
 
 -- the same after a cell, with the slot to close
-pub record Closed (board : List ℕ) (place sets : ℕ) (t l : List ℕ) (u r : ℕ) (t′ l′ : List ℕ) : Type 0 where
-  pub leaves : Leaves full (closeThen board (walkOn (cellsLeft board place) board full) (firstOn board place) (place / 4) (place % 4 + 1) sets t l u) r t′ l′
+pub record RanAfter (grid : List ℕ) (place sets : ℕ) (t l : List ℕ) (u r : ℕ) (t′ l′ : List ℕ) : Type 0 where
+  pub leaves : Leaves full (afterCell grid (walkOn (cellsLeft grid place) grid full) (firstOn grid place) (place / 4) (place % 4 + 1) sets t l u) r t′ l′

@@ -1,4 +1,4 @@
-// The walk from core to core, and from the last core to the next slot, over a board that is filled once.
+// The walk from core to core, and from the last core to the next slot, over a grid that is filled once.
 //
 // `left` has the work left of each job at its counter. `sets` has the tasks that may still stand in the slot, for each core:
 // worked out once a slot.
@@ -6,19 +6,19 @@
 // are counted up to the largest number in place of the limit.
 ghost use mathlib.Core.Path.{_≡_};
 ghost use Prim.Native.Nat.{_-_, _<_};
-ghost use Rattle.board.specs.Board.{setsOn, coresOn, Fits};
-ghost use Rattle.walk.specs.Machine.{Stands, Ran, Closed};
+ghost use Rattle.grid.specs.Grid.{setsOn, coresOn, OnGrid};
+ghost use Rattle.walk.specs.Machine.{Stands, Ran, RanAfter};
 ghost use Rattle.laws.specs.Lists.{nth};
 ghost use lib.ListN.{set};
-use board::CORES;
-use board::EVEN;
-use board::SLOTS;
-use board::closes;
-use board::counter;
-use board::enter;
-use board::floor;
-use board::rate;
-use board::wide;
+use grid::CORES_AT;
+use grid::EVEN_AT;
+use grid::SLOTS_AT;
+use grid::all_settled;
+use grid::counter;
+use grid::enter;
+use grid::floor;
+use grid::rate;
+use grid::wide;
 use tasks::Slots;
 use tasks::Work;
 use tasks::work_in;
@@ -27,9 +27,9 @@ use tasks::work_in;
 pub const FULL: u32 = 4294967295;
 
 // What a walk adds to its tries if it found a table, or was stopped: a number comes back in a register, a struct in memory.
-pub const FOUND: u64 = 4294967296;
+pub const IF_FOUND: u64 = 4294967296;
 
-pub const STOPPED: u64 = 8589934592;
+pub const IF_STOPPED: u64 = 8589934592;
 
 // The work left after some is done; 0 where that is more.
 fn less(work: Work, done: Work) -> Work
@@ -64,41 +64,41 @@ fn take_back(left: &mut [u16; 32768], counter: usize, had: Work)
 // Tries each value in the cell of a place, in order: the tasks that may stand there, and then idle.
 fn cell(
     table: &mut [u8; 4096],
-    board: &[u16; 17763],
+    grid: &[u16; 17763],
     left: &mut [u16; 32768],
     place: usize,
     mut used: u32,
     sets: u64,
 ) -> u64
-    requires { ⌜ Stands (now board) place sets ⌝ }
-    ensures { λ r. ⌜ Ran (now (board .entry)) place sets (now (table .entry)) (now (left .entry)) used r (now (table .exit)) (now (left .exit)) ⌝ }
+    requires { ⌜ Stands (now grid) place sets ⌝ }
+    ensures { λ r. ⌜ Ran (now (grid .entry)) place sets (now (table .entry)) (now (left .entry)) used r (now (table .exit)) (now (left .exit)) ⌝ }
 {
     let slot = place / 4;
     let core = place % 4;
-    let first = slot * wide(board[CORES]);
-    let floor = floor(board, table, first, core);
+    let first = slot * wide(grid[CORES_AT]);
+    let floor = floor(grid, table, first, core);
     let mut barred: usize = 0;
     let mut rest = sets::of_core(sets, core);
     while rest != 0 {
         let task = sets::lowest(rest);
         rest = sets::without(rest, task);
-        barred += wide(board[EVEN + task]);
+        barred += wide(grid[EVEN_AT + task]);
         if floor <= task + 1 {
             if used == FULL {
-                return STOPPED + used as u64;
+                return IF_STOPPED + used as u64;
             }
-            let counter = counter(board, slot, task);
-            let had = put(left, counter, rate(board, task, core));
+            let counter = counter(grid, slot, task);
+            let had = put(left, counter, rate(grid, task, core));
             table[first + core] = (task + 1) as u8;
-            let r = close_slot(
+            let r = finish_slot(
                 table,
-                board,
+                grid,
                 left,
                 place,
                 used + 1,
                 sets::without(sets, task),
             );
-            if FOUND <= r {
+            if IF_FOUND <= r {
                 return r;
             }
             take_back(left, counter, had);
@@ -109,34 +109,34 @@ fn cell(
         return used as u64;
     }
     if used == FULL {
-        return STOPPED + used as u64;
+        return IF_STOPPED + used as u64;
     }
     table[first + core] = 0;
-    close_slot(table, board, left, place, used + 1, sets)
+    finish_slot(table, grid, left, place, used + 1, sets)
 }
 
 // After the cell of a place: the next core; after the last, where no job is starved, the next slot; after the last slot the table is found.
-fn close_slot(
+fn finish_slot(
     table: &mut [u8; 4096],
-    board: &[u16; 17763],
+    grid: &[u16; 17763],
     left: &mut [u16; 32768],
     place: usize,
     tries: u32,
     sets: u64,
 ) -> u64
-    requires { ⌜ Stands (now board) place sets ⌝ }
-    ensures { λ r. ⌜ Closed (now (board .entry)) place sets (now (table .entry)) (now (left .entry)) tries r (now (table .exit)) (now (left .exit)) ⌝ }
+    requires { ⌜ Stands (now grid) place sets ⌝ }
+    ensures { λ r. ⌜ RanAfter (now (grid .entry)) place sets (now (table .entry)) (now (left .entry)) tries r (now (table .exit)) (now (left .exit)) ⌝ }
 {
-    if place % 4 + 1 < wide(board[CORES]) {
-        return cell(table, board, left, place + 1, tries, sets);
+    if place % 4 + 1 < wide(grid[CORES_AT]) {
+        return cell(table, grid, left, place + 1, tries, sets);
     }
     let slot = place / 4;
-    if closes(board, left, slot) {
-        if slot + 1 < wide(board[SLOTS]) {
-            let sets = enter(board, left, slot + 1);
-            return cell(table, board, left, (slot + 1) * 4, tries, sets);
+    if all_settled(grid, left, slot) {
+        if slot + 1 < wide(grid[SLOTS_AT]) {
+            let sets = enter(grid, left, slot + 1);
+            return cell(table, grid, left, (slot + 1) * 4, tries, sets);
         }
-        return FOUND + tries as u64;
+        return IF_FOUND + tries as u64;
     }
     tries as u64
 }
@@ -144,13 +144,13 @@ fn close_slot(
 // The walk from the first cell.
 pub fn walk(
     table: &mut [u8; 4096],
-    board: &[u16; 17763],
+    grid: &[u16; 17763],
     left: &mut [u16; 32768],
     tries: u32,
 ) -> u64
-    requires { ⌜ Fits (now board) 0 × (0 < coresOn (now board)) ⌝ }
-    ensures { λ r. ⌜ Ran (now (board .entry)) 0 (setsOn (now (board .entry)) (now (left .entry)) 0) (now (table .entry)) (now (left .entry)) tries r (now (table .exit)) (now (left .exit)) ⌝ }
+    requires { ⌜ OnGrid (now grid) 0 × (0 < coresOn (now grid)) ⌝ }
+    ensures { λ r. ⌜ Ran (now (grid .entry)) 0 (setsOn (now (grid .entry)) (now (left .entry)) 0) (now (table .entry)) (now (left .entry)) tries r (now (table .exit)) (now (left .exit)) ⌝ }
 {
-    let sets = enter(board, left, 0);
-    cell(table, board, left, 0, tries, sets)
+    let sets = enter(grid, left, 0);
+    cell(table, grid, left, 0, tries, sets)
 }

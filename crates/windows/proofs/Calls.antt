@@ -10,7 +10,7 @@ use Rattle.tasks.specs.declared.Task.{Task}
 use Rattle.tasks.specs.Window.{jobAt, IsOpen, isOpen, lastSlot}
 use Rattle.windows.specs.declared.Window.{Window}
 use Rattle.windows.specs.declared.Window.the-variants.{Open, Closed}
-use Rattle.windows.specs.Answer.{toldOf, inSlot}
+use Rattle.windows.specs.Answer.{inSlotAs, inSlot}
 use Rattle.windows.proofs.AnswerLaws.{told-open, told-closed}
 use Rattle.windows.proofs.is_open as is-open
 use Rattle.windows.proofs.job_at as job-at
@@ -46,20 +46,20 @@ answerIf true job = Open job
 answerIf false job = Closed
 
 -- is the answer
-answer-if : (r : Window) → answerIf (toldOf r .opens) (toldOf r .job) ≡ r
-unfolding toldOf answerIf
+answer-if : (r : Window) → answerIf (inSlotAs r .opens) (inSlotAs r .job) ≡ r
+unfolding inSlotAs answerIf
 answer-if (Open job) = refl
 answer-if Closed = refl
 
 abbrev pub OpenIn : Slots → Task → Slots → Window → Type 0
-OpenIn len t slot r = toldOf r ≡ inSlot (len .0) t (slot .0)
+OpenIn len t slot r = inSlotAs r ≡ inSlot (len .0) t (slot .0)
 
 open-in-says : (κs len t slot len′ t′ slot′ r : _)
     → Says (λ M 𝓤 H A mem run. open-in.ensures-1 𝓤 H κs A mem run len t slot len′ t′ slot′ r) (OpenIn len t slot r)
 open-in-says κs len t slot len′ t′ slot′ r M 𝓤 H A mem run = refl
 
 pub open-in-only : (len : Slots) (t : Task) (slot : Slots) (r r′ : Window) → OpenIn len t slot r → OpenIn len t slot r′ → r ≡ r′
-open-in-only len t slot r r′ = only-told toldOf (λ x. answerIf (x .opens) (x .job)) answer-if
+open-in-only len t slot r r′ = only-told inSlotAs (λ x. answerIf (x .opens) (x .job)) answer-if
 
 -- the cases: open, with the job's number
 pub open-in-open : (len : Slots) (t : Task) (slot : Slots) (k : ℕ) → OpenIn len t slot (Open k)

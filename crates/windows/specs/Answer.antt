@@ -14,9 +14,9 @@ pub record InSlot : Type 0 where
   pub job : ℕ
 
 -- the answer by 01's numbers
-unfoldable pub toldOf : Window → InSlot
-toldOf (Open job) = record { opens = true; job = job }
-toldOf Closed = record { opens = false; job = 0 }
+unfoldable pub inSlotAs : Window → InSlot
+inSlotAs (Open job) = record { opens = true; job = job }
+inSlotAs Closed = record { opens = false; job = 0 }
 
 -- a task in slot t of L
 unfoldable pub inSlot : ℕ → Task → ℕ → InSlot

@@ -2,7 +2,7 @@
 ghost use mathlib.Core.Path.{_≡_};
 ghost use Prim.Native.Nat.{_≤_, _<_, _/_};
 ghost use Rattle.tasks.specs.Window.{place as placeOf, isOpen, jobAt, lastSlot, Cyclic};
-ghost use Rattle.windows.specs.Answer.{toldOf, inSlot};
+ghost use Rattle.windows.specs.Answer.{inSlotAs, inSlot};
 use tasks::Slots;
 use tasks::Task;
 
@@ -41,7 +41,7 @@ pub enum Window {
 // Whether a task is open in a slot, and for which job.
 pub fn open_in(len: Slots, t: Task, slot: Slots) -> Window
     requires { ⌜ (0 < len .0) × (len .0 ≤ 1024) × (slot .0 < len .0) × (0 < t .period .0) ⌝ }
-    ensures { λ r. ⌜ toldOf r ≡ inSlot (len .0) t (slot .0) ⌝ }
+    ensures { λ r. ⌜ inSlotAs r ≡ inSlot (len .0) t (slot .0) ⌝ }
 {
     if is_open(len, t, slot) {
         Window::Open(job_at(len, t, slot))

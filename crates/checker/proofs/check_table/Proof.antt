@@ -1,7 +1,7 @@
 -- `checker::check_table` meets its contract: refusals in 01's order, then the first faulty cell, then the first faulty job.
 -- Assumes nothing.
 use native.Mathlib.Omega.{arith}
-use Rattle.checker.specs.Checks.{Ready}
+use Rattle.checker.specs.Checks.{Checkable}
 use Rattle.checker.proofs.TellLaws.{refused-told, few-cells, short-told, ready-there, counted-none, jobs-ready, jobs-told, cell-told}
 use borrow.Author.Needs.{needs}
 use Rattle.checker.proofs.check_table.Statement.{statement}
@@ -14,7 +14,7 @@ returns : tie.Need-returns
 returns c = short-told _ _ _ (c .before .before .before .before .before .test-list .ensures) (c .before .before .before .soundness2 .given .1) (c .if1 .taken)
 
 -- no refusal
-ready : (c : tie.After-done) → Ready (c .before .before .before .before .before .before .before .before .args .list) (c .before .before .before .before .before .before .before .before .args .m) (c .before .before .before .before .soundness2 .given .0 .0 .0) (c .before .before .before .before .before .before .before .before .args .table .now)
+ready : (c : tie.After-done) → Checkable (c .before .before .before .before .before .before .before .before .args .list) (c .before .before .before .before .before .before .before .before .args .m) (c .before .before .before .before .soundness2 .given .0 .0 .0) (c .before .before .before .before .before .before .before .before .args .table .now)
 ready c = ready-there _ _ _ (c .before .before .before .before .before .before .test-list .ensures) (c .before .before .before .before .soundness2 .given .1) (c .before .if1 .left)
 
 scan-cells-requires : tie.Need-scan-cells-requires

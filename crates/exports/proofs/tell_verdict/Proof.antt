@@ -3,30 +3,30 @@
 use mathlib.Core.Path.{_≡_, sym, ap, _∙_}
 use Rattle.checker.specs.declared.Verdict.{Verdict}
 use Rattle.checker.specs.declared.Verdict.the-variants.{Valid, Cell, Job, Refused}
-use Rattle.checker.specs.Checks.{toldOf}
-use Rattle.exports.specs.Packed.{checkedAs}
+use Rattle.checker.specs.Checks.{checkedAs}
+use Rattle.exports.specs.Packed.{checkNumber}
 use borrow.Author.Needs.{needs}
 use Rattle.exports.proofs.tell_verdict.Statement.{statement}
 use Rattle.exports.proofs.tell_verdict.Tie as tie
 
 -- a case of the answer, as the definition's number
-as-told : (w : Verdict) {v : Verdict} → v ≡ w → checkedAs (toldOf w) ≡ checkedAs (toldOf v)
-as-told w e = ap (λ v. checkedAs (toldOf v)) (sym e)
+as-told : (w : Verdict) {v : Verdict} → v ≡ w → checkNumber (checkedAs w) ≡ checkNumber (checkedAs v)
+as-told w e = ap (λ v. checkNumber (checkedAs v)) (sym e)
 
 returns : tie.Need-returns
-unfolding toldOf checkedAs
+unfolding checkedAs checkNumber
 returns c = as-told Valid (c .enum-told .given .1)
 
 returns-2 : tie.Need-returns-2
-unfolding toldOf checkedAs
+unfolding checkedAs checkNumber
 returns-2 c = c .packed .ensures ∙ as-told (Cell _ _ _) (c .before .before .verdict .given .1)
 
 returns-3 : tie.Need-returns-3
-unfolding toldOf checkedAs
+unfolding checkedAs checkNumber
 returns-3 c = c .packed2 .ensures ∙ as-told (Job _ _ _) (c .before .before .verdict2 .given .1)
 
 returns-4 : tie.Need-returns-4
-unfolding toldOf checkedAs
+unfolding checkedAs checkNumber
 returns-4 c = c .packed3 .ensures ∙ as-told (Refused _) (c .before .before .verdict3 .given .1)
 
 pub tell-verdict-spec : {M : Type 1} → statement M

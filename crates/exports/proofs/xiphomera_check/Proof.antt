@@ -38,14 +38,14 @@ use Rattle.tasks.specs.declared.Task.{Task}
 use Rattle.tasks.proofs.Task as T
 use Rattle.table.specs.Fault.{check}
 use Rattle.checker.specs.declared.Verdict.{Verdict}
-use Rattle.checker.specs.Checks.{toldOf}
+use Rattle.checker.specs.Checks.{checkedAs}
 use Rattle.checker.proofs.Verdict as D
 use Rattle.checker.proofs.Verdict.Laws as D′
 use Rattle.planner.proofs.check as the-check
 use Rattle.planner.proofs.check.Symbol as check-def
 use Rattle.planner.proofs.check.Symbol.{name as #planner·check}
 use Rattle.planner.proofs.check.Met as check-thm
-use Rattle.exports.specs.Packed.{checkedAs}
+use Rattle.exports.specs.Packed.{checkNumber}
 use Rattle.exports.proofs.CallLaws.{ContractOf, calls-told, calls-plain}
 use Rattle.exports.proofs.NarrowLaws.{check-told}
 use Rattle.exports.proofs.NarrowCall.{Narrow, calls-narrow}
@@ -98,7 +98,7 @@ module _ {M : Type 1} (𝓤 : URA M) (H : Heap 𝓤) (A : Atoms 𝓤) (W : Given
   Post = walkOf 𝓤 H A f.ended stayed (f.clauses 𝓤 H A at-mem run) .post (((κ, (κ′, tt)), (q, (q′, tt)), bounds, a, at), tt)
 
   -- what is had at the end is what the contract asks
-  exits : (k : ℕ) (w : Val) → k ≡ checkedAs (check cores (x .now) (y .now)) → ent 𝓤 (⋆ 𝓤 H A (‵ (flft κ q) ∷ ‵ (flft κ′ q′) ∷ ‵ (u64 .own k (w ∷ [])) ∷ [])) (Post w)
+  exits : (k : ℕ) (w : Val) → k ≡ checkNumber (check cores (x .now) (y .now)) → ent 𝓤 (⋆ 𝓤 H A (‵ (flft κ q) ∷ ‵ (flft κ′ q′) ∷ ‵ (u64 .own k (w ∷ [])) ∷ [])) (Post w)
   exits k w e =
       qed W (‵ (flft κ q) ∷ ‵ (flft κ′ q′) ∷ ‵ (u64 .own k (w ∷ [])) ∷ []) ∵
       suffices ! _ (ends-at 𝓤 H A f.ended stayed (f.clauses 𝓤 H A at-mem run) W (((κ, (κ′, tt)), (q, (q′, tt)), bounds, a, at), tt) w k (tt, (tt, (tt, tt))) (tt, (tt, (tt, tt)))) $ says ! e $
@@ -136,18 +136,18 @@ module _ {M : Type 1} (𝓤 : URA M) (H : Heap 𝓤) (A : Atoms 𝓤) (W : Given
         calls-narrow 𝓤 H A at-mem run cores ! fm known-narrow cores-fits (and-then ! (load ! (from ! (stop !)) (look ! 7 refl)) (no-more !)) (λ m is-m m-fits. land ! (from ! (stop !)) (init ! 2 refl (tt, record { fits = m-fits })) $
         -- the table is checked
         move ! (12 ∷ []) $ use1 W (raw (Check 𝓤 H A at-mem run .pre (to-check m))) (goes-check m m-fits) $
-        calls-told 𝓤 H A the-check.ended (the-check.clauses 𝓤 H A at-mem run) (to-check m .0) tt (λ r ws. toldOf r ≡ check m (x .now) (y .now)) (λ r ws. id⊢ 𝓤 _) ! fm known-check
+        calls-told 𝓤 H A the-check.ended (the-check.clauses 𝓤 H A at-mem run) (to-check m .0) tt (λ r ws. checkedAs r ≡ check m (x .now) (y .now)) (λ r ws. id⊢ 𝓤 _) ! fm known-check
         (and-then ! (load ! (from ! (stop !)) (look ! 9 refl)) (and-then ! (load ! (from ! (stop !)) (look ! 3 refl)) (and-then ! (load ! (from ! (stop !)) (look ! 5 refl)) (no-more !)))) (λ v r ws is is-r.
         move ! (2 ∷ 1 ∷ []) $ drop ! $ use1 W (‵ (flft κ q) ⊛ ‵ (flft κ′ q′) ⊛ ‵ ftrue) (id⊢ 𝓤 _) $ split ! $ move ! (1 ∷ []) $ split ! $ move ! (3 ∷ []) $
         -- [the answer; the second token; true; the first token; _5; …]
         land ! (from ! (stop !)) (init ! 4 refl (EL.lawful D.the-type D′.the-laws 𝓤 H A W tt .typed r _ is-r .0)) $
         use1 W (raw (Tell 𝓤 H A at-mem run .pre (to-tell r v))) (goes-tell r v) $
-        calls-plain 𝓤 H A tell.ended (tell.clauses 𝓤 H A at-mem run) (to-tell r v .0) tt (λ k ws. k ≡ checkedAs (toldOf r)) (λ k ws. id⊢ 𝓤 _) ! fm known-tell (vint w64) (uint-tells w64) (and-then ! (load ! (from ! (stop !)) (look ! 4 refl)) (no-more !)) (λ k ws is-k k-is.
+        calls-plain 𝓤 H A tell.ended (tell.clauses 𝓤 H A at-mem run) (to-tell r v .0) tt (λ k ws. k ≡ checkNumber (checkedAs r)) (λ k ws. id⊢ 𝓤 _) ! fm known-tell (vint w64) (uint-tells w64) (and-then ! (load ! (from ! (stop !)) (look ! 4 refl)) (no-more !)) (λ k ws is-k k-is.
         -- [the number; the second token; true; the first token; _5; …]
         land ! (from ! (stop !)) (init ! 14 refl (tt, record { fits = k-is .1 })) $
         returns ! (look ! 14 refl) $ forget ! 4 refl $ forget ! 6 refl $ forget ! 8 refl $ forget ! 10 refl $ forget ! 12 refl $ forget ! 14 refl $
         move ! (14 ∷ 15 ∷ []) $ free1 ! $ move ! (12 ∷ 13 ∷ []) $ free1 ! $ move ! (10 ∷ 11 ∷ []) $ free1 ! $ move ! (8 ∷ 9 ∷ []) $ free1 ! $ move ! (6 ∷ 7 ∷ []) $ free1 ! $ move ! (4 ∷ 5 ∷ []) $ free1 ! $ free0 ! $
-        keep ! (3 ∷ 1 ∷ 0 ∷ []) $ by ! (exits k _ (is-k ∙ ap checkedAs (check-told (x .now) cores (y .now) is-m is))))))))))))
+        keep ! (3 ∷ 1 ∷ 0 ∷ []) $ by ! (exits k _ (is-k ∙ ap checkNumber (check-told (x .now) cores (y .now) is-m is))))))))))))
 
 module _ {M : Type 1} (𝓤 : URA M) (H : Heap 𝓤) (A : Atoms 𝓤) (W : Given 𝓤 H A) (at-mem : Memory → SProp 𝓤) (run : Routine → Fun 𝓤) (𝓣 : Tables 𝓤 H)
     (known-narrow : Triple 𝓤 (𝓣 .C #exports·narrow) (Narrow 𝓤 H A at-mem run)) (known-check : Triple 𝓤 (𝓣 .C #planner·check) (Check 𝓤 H A at-mem run)) (known-tell : Triple 𝓤 (𝓣 .C #exports·tell-verdict) (Tell 𝓤 H A at-mem run)) where

@@ -39,14 +39,14 @@ use Rattle.tasks.specs.declared.Task.{Task}
 use Rattle.tasks.proofs.Task as T
 use Rattle.rules.specs.Search.{search}
 use Rattle.search.specs.declared.Answer.{Answer}
-use Rattle.search.specs.Told.{toldOf}
+use Rattle.search.specs.Told.{searchedAs}
 use Rattle.search.proofs.Answer as D
 use Rattle.search.proofs.Answer.Laws as D′
 use Rattle.planner.proofs.plan as plan
 use Rattle.planner.proofs.plan.Symbol as plan-def
 use Rattle.planner.proofs.plan.Symbol.{name as #planner·plan}
 use Rattle.planner.proofs.plan.Met as plan-thm
-use Rattle.exports.specs.Packed.{withVerdict, SearchedAs}
+use Rattle.exports.specs.Packed.{withVerdict, SearchNumber}
 use Rattle.exports.proofs.CallLaws.{ContractOf, calls-valued, calls-plain}
 use Rattle.exports.proofs.NarrowLaws.{search-told}
 use Rattle.exports.proofs.NarrowCall.{Narrow, calls-narrow}
@@ -99,7 +99,7 @@ module _ {M : Type 1} (𝓤 : URA M) (H : Heap 𝓤) (A : Atoms 𝓤) (W : Given
   Post = walkOf 𝓤 H A f.ended stayed (f.clauses 𝓤 H A at-mem run) .post (((κ, (κ′, tt)), (q, (q′, tt)), bounds, a, at), tt)
 
   -- what is had at the end is what the contract asks
-  exits : (k : ℕ) (w : Val) (zs : List ℕ) → SearchedAs k zs (search cores (x .now) engine limit (y .now)) → length zs ≡ length (y .now)
+  exits : (k : ℕ) (w : Val) (zs : List ℕ) → SearchNumber k zs (search cores (x .now) engine limit (y .now)) → length zs ≡ length (y .now)
       → ent 𝓤 (⋆ 𝓤 H A (‵ (flft κ q) ∷ ‵ (flft κ′ q′) ∷ ‵ (finally u8 (y .name) zs) ∷ ‵ (u64 .own k (w ∷ [])) ∷ [])) (Post w)
   exits k w zs e l =
       qed W (‵ (flft κ q) ∷ ‵ (flft κ′ q′) ∷ ‵ (finally u8 (y .name) zs) ∷ ‵ (u64 .own k (w ∷ [])) ∷ []) ∵
@@ -146,7 +146,7 @@ module _ {M : Type 1} (𝓤 : URA M) (H : Heap 𝓤) (A : Atoms 𝓤) (W : Given
         assigns ! (addr ! (from ! (fld ! refl (hop ! (look-in ! 10 (sub ! 0 refl (whole !))) (stop !))))) (from ! (stop !)) (init ! 2 refl (tt, tt)) $
         assigns ! (agg ! (and-then ! (load ! (from ! (stop !)) (look ! 2 refl)) (and-then ! (load ! (from ! (fld ! refl (stop !))) (look-in ! 10 (sub ! 1 refl (whole !)))) (no-more !)))) (from ! (stop !)) (init ! 0 refl (tt, (tt, (record { fits = gy .0 }, tt)))) $
         move ! (22 ∷ []) $ use1 W (raw (Plan 𝓤 H A at-mem run .pre (to-plan m e))) (goes-plan m e m-fits e-fits) $
-        calls-valued 𝓤 H A plan.ended (plan.clauses 𝓤 H A at-mem run) (to-plan m e .0) tt (λ r ws. toldOf r (ws .1 .1 .1 .1 .0) ≡ search m (x .now) e limit (y .now)) (λ r ws. id⊢ 𝓤 _) ! fm known-plan D′.lowered (D′.lowers .val-is)
+        calls-valued 𝓤 H A plan.ended (plan.clauses 𝓤 H A at-mem run) (to-plan m e .0) tt (λ r ws. searchedAs r (ws .1 .1 .1 .1 .0) ≡ search m (x .now) e limit (y .now)) (λ r ws. id⊢ 𝓤 _) ! fm known-plan D′.lowered (D′.lowers .val-is)
         (and-then ! (load ! (from ! (stop !)) (look ! 19 refl)) (and-then ! (load ! (from ! (stop !)) (look ! 9 refl)) (and-then ! (load ! (from ! (stop !)) (look ! 7 refl)) (and-then ! (load ! (from ! (stop !)) (look ! 13 refl)) (and-then ! (load ! (from ! (stop !)) (look ! 1 refl)) (no-more !)))))) (λ r ws is is-r.
         move ! (2 ∷ []) $ fsplit ! $ drop ! $ fsplit ! $ drop ! $ fsplit ! $ drop ! $ fsplit ! $ drop ! $ fsplit ! $ fsplit ! $ move ! (1 ∷ []) $ feqL ! (λ l.
         move ! (3 ∷ []) $ use1 W (‵ (flft κ q) ⊛ ‵ (flft κ′ q′) ⊛ ‵ ftrue) (id⊢ 𝓤 _) $ split ! $ move ! (1 ∷ []) $ split ! $ move ! (5 ∷ []) $

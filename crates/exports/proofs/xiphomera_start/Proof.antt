@@ -47,7 +47,7 @@ use Rattle.planner.proofs.start as start
 use Rattle.planner.proofs.start.Symbol as start-def
 use Rattle.planner.proofs.start.Symbol.{name as #planner·start}
 use Rattle.planner.proofs.start.Met as start-thm
-use Rattle.exports.specs.Packed.{ToldAs}
+use Rattle.exports.specs.Packed.{ShownNumber}
 use Rattle.exports.proofs.CallLaws.{ContractOf, calls-valued}
 use Rattle.exports.proofs.NarrowLaws.{start-told}
 use Rattle.exports.proofs.NarrowCall.{Narrow, calls-narrow}
@@ -95,11 +95,11 @@ module _ {M : Type 1} (𝓤 : URA M) (H : Heap 𝓤) (A : Atoms 𝓤) (W : Given
   Said m s left = (s ≡ started m (y .now) (table .now) tick) × (left ≡ afterStart m (y .now) (table .now) tick (p .now))
 
   -- what is had at the end is what the contract asks
-  exits : (s : Shown) (left : Player) (r : ℕ) (cells : List ℕ) (w : Val) → Said cores s left → ToldAs r cells s
+  exits : (s : Shown) (left : Player) (r : ℕ) (cells : List ℕ) (w : Val) → Said cores s left → ShownNumber r cells s
       → ent 𝓤 (⋆ 𝓤 H A (‵ (u64 .own r (w ∷ [])) ∷ ‵ (flft κ₃ q₃) ∷ ‵ (fres (c .name) (Array u8 4 .coded .code cells)) ∷ ‵ (flft κ₂ q₂) ∷ ‵ (flft κ₁ q₁) ∷ ‵ (flft κ₀ q₀) ∷ ‵ (fres (p .name) (P.the-row .coded .code left)) ∷ [])) (Post w)
   exits s left r cells w e a =
       qed W (‵ (u64 .own r (w ∷ [])) ∷ ‵ (flft κ₃ q₃) ∷ ‵ (fres (c .name) (Array u8 4 .coded .code cells)) ∷ ‵ (flft κ₂ q₂) ∷ ‵ (flft κ₁ q₁) ∷ ‵ (flft κ₀ q₀) ∷ ‵ (fres (p .name) (P.the-row .coded .code left)) ∷ []) ∵
-      suffices ! _ (ends-at 𝓤 H A f.ended stayed (f.clauses 𝓤 H A at-mem run) W (((κ₀, (κ₁, (κ₂, (κ₃, tt)))), (q₀, (q₁, (q₂, (q₃, tt)))), bounds, x, at), tt) w r (left, (tt, (tt, (tt, (tt, (cells, tt)))))) (tt, (tt, (tt, (tt, (tt, (tt, tt))))))) $ says ! (subst (ToldAs r cells) (e .0) a, e .1) $
+      suffices ! _ (ends-at 𝓤 H A f.ended stayed (f.clauses 𝓤 H A at-mem run) W (((κ₀, (κ₁, (κ₂, (κ₃, tt)))), (q₀, (q₁, (q₂, (q₃, tt)))), bounds, x, at), tt) w r (left, (tt, (tt, (tt, (tt, (cells, tt)))))) (tt, (tt, (tt, (tt, (tt, (tt, tt))))))) $ says ! (subst (ShownNumber r cells) (e .0) a, e .1) $
       -- the tokens
       nothing ! $ move ! (2 ∷ 0 ∷ []) $ join ! $ move ! (3 ∷ 0 ∷ []) $ join ! $ move ! (3 ∷ 0 ∷ []) $ join ! $ move ! (3 ∷ 0 ∷ []) $ join ! $ frame ! $
       -- what is had of the parameters, and the result

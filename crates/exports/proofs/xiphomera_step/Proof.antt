@@ -43,7 +43,7 @@ use Rattle.player.proofs.step as step
 use Rattle.player.proofs.step.Symbol as step-def
 use Rattle.player.proofs.step.Symbol.{name as #player·step}
 use Rattle.player.proofs.step.Met as step-thm
-use Rattle.exports.specs.Packed.{ToldAs}
+use Rattle.exports.specs.Packed.{ShownNumber}
 use Rattle.exports.proofs.CallLaws.{ContractOf, calls-valued}
 use Rattle.exports.proofs.TellCall.{Tell, calls-tell}
 use Rattle.exports.proofs.tell.Symbol as tell-def
@@ -80,12 +80,12 @@ module _ {M : Type 1} (𝓤 : URA M) (H : Heap 𝓤) (A : Atoms 𝓤) (W : Given
   Said s left = (s ≡ stepped (p .now) n) × (left ≡ afterStep (p .now) n)
 
   -- what is had at the end is what the contract asks
-  exits : (s : Shown) (left : Player) (r : ℕ) (cells : List ℕ) (w : Val) → Said s left → ToldAs r cells s
+  exits : (s : Shown) (left : Player) (r : ℕ) (cells : List ℕ) (w : Val) → Said s left → ShownNumber r cells s
       → ent 𝓤 (⋆ 𝓤 H A (‵ (u64 .own r (w ∷ [])) ∷ ‵ (flft κ₁ q₁) ∷ ‵ (fres (c .name) (Array u8 4 .coded .code cells)) ∷ ‵ (flft κ₀ q₀) ∷ ‵ (fres (p .name) (T.the-row .coded .code left)) ∷ [])) (Post w)
   exits s left r cells w e a =
       qed W (‵ (u64 .own r (w ∷ [])) ∷ ‵ (flft κ₁ q₁) ∷ ‵ (fres (c .name) (Array u8 4 .coded .code cells)) ∷ ‵ (flft κ₀ q₀) ∷ ‵ (fres (p .name) (T.the-row .coded .code left)) ∷ []) ∵
       suffices ! _ (ends-at 𝓤 H A f.ended stayed (f.clauses 𝓤 H A at-mem run) W (((κ₀, (κ₁, tt)), (q₀, (q₁, tt)), bounds, x, at), tt) w r (left, (tt, (cells, tt))) (tt, (tt, (tt, tt)))) $
-      says ! (subst (ToldAs r cells) (e .0) a, e .1) $
+      says ! (subst (ShownNumber r cells) (e .0) a, e .1) $
       -- the tokens
       nothing ! $ move ! (2 ∷ 0 ∷ []) $ join ! $ move ! (3 ∷ 0 ∷ []) $ join ! $ frame ! $
       -- what is had of the parameters, and the result

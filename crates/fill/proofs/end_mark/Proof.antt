@@ -11,10 +11,10 @@ use Rattle.fill.proofs.end_mark.Statement.{statement}
 use Rattle.fill.proofs.end_mark.Tie as tie
 
 abbrev Inv-loop : tie.InvT-loop
-Inv-loop board n slot v₀ v = (v ≤ n) × ((k : ℕ) → k < v → nth board (slot * 16 + k) % 2 ≡ 0)
+Inv-loop grid n slot v₀ v = (v ≤ n) × ((k : ℕ) → k < v → nth grid (slot * 16 + k) % 2 ≡ 0)
 
 abbrev μ-loop : tie.MeasureT-loop
-μ-loop board n slot v₀ v = n - v
+μ-loop grid n slot v₀ v = n - v
 
 loop-holds : tie.Need-loop-holds Inv-loop μ-loop
 loop-holds c = (search needs, below-none _)

@@ -6,7 +6,7 @@ use mathlib.Core.Bool.{true}
 use borrow.Author.Needs.{needs}
 use borrow.Author.Count.{below-none, below-more}
 use borrow.Author.Tests.{not-true, not-false}
-use Rattle.fill.specs.Board.{pairEven, rowEven}
+use Rattle.fill.specs.Grid.{pairEven, rowEven}
 use Rattle.fill.proofs.FillLaws.{one-fails, none-fails}
 use Rattle.fill.proofs.even_rates.Statement.{statement}
 use Rattle.fill.proofs.even_rates.Tie as tie

@@ -1,4 +1,4 @@
--- `fill::fill_ends` meets its contract. The loop's invariant: the marks passed stand on the board, and the rest is as it was.
+-- `fill::fill_ends` meets its contract. The loop's invariant: the marks passed stand on the grid, and the rest is as it was.
 -- Assumes nothing.
 use Prim.Native.Nat.{_-_, _≤_}
 use mathlib.Core.Path.{_≡_}
@@ -6,16 +6,16 @@ use borrow.Author.Needs.{needs}
 use native.Mathlib.Omega.{arith}
 use Rattle.laws.specs.Lists.{filled}
 use Rattle.laws.proofs.ListLaws.{filled-none, filled-next}
-use Rattle.fill.specs.Board.{endMark}
+use Rattle.fill.specs.Grid.{endMark}
 use Rattle.fill.proofs.FillLaws.{all-stored, ends-same}
 use Rattle.fill.proofs.fill_ends.Statement.{statement}
 use Rattle.fill.proofs.fill_ends.Tie as tie
 
 abbrev Inv-loop : tie.InvT-loop
-Inv-loop board₀ n slots slot₀ board slot = (slot ≤ slots) × (board ≡ filled board₀ 16739 slot (endMark board₀ n))
+Inv-loop grid₀ n slots slot₀ grid slot = (slot ≤ slots) × (grid ≡ filled grid₀ 16739 slot (endMark grid₀ n))
 
 abbrev μ-loop : tie.MeasureT-loop
-μ-loop board₀ n slots slot₀ board slot = slots - slot
+μ-loop grid₀ n slots slot₀ grid slot = slots - slot
 
 loop-holds : tie.Need-loop-holds Inv-loop μ-loop
 loop-holds c = (search needs, filled-none _ _ _)

@@ -1,4 +1,4 @@
--- `fill::fill_marks` meets its contract. The loop's invariant: the marks passed stand on the board, and the rest is as it was.
+-- `fill::fill_marks` meets its contract. The loop's invariant: the marks passed stand on the grid, and the rest is as it was.
 -- Assumes nothing.
 use Prim.Native.Nat.{_-_, _≤_}
 use mathlib.Core.Path.{_≡_}
@@ -6,16 +6,16 @@ use borrow.Author.Needs.{needs}
 use native.Mathlib.Omega.{arith}
 use Rattle.laws.specs.Lists.{filled}
 use Rattle.laws.proofs.ListLaws.{filled-none, filled-next}
-use Rattle.fill.specs.Board.{markAt}
+use Rattle.fill.specs.Grid.{markAt}
 use Rattle.fill.proofs.FillLaws.{all-stored}
 use Rattle.fill.proofs.fill_marks.Statement.{statement}
 use Rattle.fill.proofs.fill_marks.Tie as tie
 
 abbrev Inv-loop : tie.InvT-loop
-Inv-loop board₀ n rates m engine slots x₀ board x = (x ≤ 355) × (board ≡ filled board₀ 16384 x (markAt n rates m engine slots))
+Inv-loop grid₀ n rates m engine slots x₀ grid x = (x ≤ 355) × (grid ≡ filled grid₀ 16384 x (markAt n rates m engine slots))
 
 abbrev μ-loop : tie.MeasureT-loop
-μ-loop board₀ n rates m engine slots x₀ board x = 355 - x
+μ-loop grid₀ n rates m engine slots x₀ grid x = 355 - x
 
 loop-holds : tie.Need-loop-holds Inv-loop μ-loop
 loop-holds c = (search needs, filled-none _ _ _)

@@ -3,13 +3,13 @@
 use mathlib.Core.Path.{sym, ap, _∙_}
 use borrow.Author.Needs.{needs}
 use native.Mathlib.Omega.{arith}
-use Rattle.fill.specs.Board.{quickMark}
+use Rattle.fill.specs.Grid.{quickMark}
 use Rattle.fill.proofs.FillLaws.{at-rate, at-rule, at-size, at-fit}
 use Rattle.fill.proofs.mark.Statement.{statement}
 use Rattle.fill.proofs.mark.Tie as tie
 
 returns : tie.Need-returns
-returns c = c .wide .ensures .0 ∙ sym (at-rate _ _ _ _ _ _ (omega arith))
+returns c = c .rate-entry .ensures .0 ∙ sym (at-rate _ _ _ _ _ _ (omega arith))
 
 returns-2 : tie.Need-returns-2
 returns-2 c = c .quick-mark .ensures ∙ ap (quickMark _) (c .before .rule-test .ensures) ∙ sym (at-rule _ _ _ _ _ _ (omega arith) (omega arith))

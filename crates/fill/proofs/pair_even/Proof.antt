@@ -1,7 +1,7 @@
 -- `fill::pair_even` meets its contract: the pair is the definition's.
 -- Assumes nothing.
 use borrow.Author.Needs.{needs}
-use Rattle.fill.specs.Board.{pairEven}
+use Rattle.fill.specs.Grid.{pairEven}
 use Rattle.fill.proofs.pair_even.Statement.{statement}
 use Rattle.fill.proofs.pair_even.Tie as tie
 

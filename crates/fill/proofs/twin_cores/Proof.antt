@@ -8,7 +8,7 @@ use borrow.Author.Count.{below-none, below-more}
 use lib.Dec.{eqb}
 use borrow.Author.Tests.{eq-eqb, ne-eqb}
 use Rattle.laws.specs.Lists.{nth}
-use Rattle.fill.specs.Board.{coresTwin}
+use Rattle.fill.specs.Grid.{coresTwin}
 use Rattle.fill.proofs.FillLaws.{one-fails, none-fails}
 use Rattle.fill.proofs.twin_cores.Statement.{statement}
 use Rattle.fill.proofs.twin_cores.Tie as tie

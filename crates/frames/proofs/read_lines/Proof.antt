@@ -7,7 +7,7 @@ use borrow.Author.Needs.{needs}
 use borrow.Author.Tests.{not-true, not-false}
 use lib.ListN.{length}
 use Rattle.laws.specs.Lists.{tabFrom}
-use Rattle.lines.specs.Frame.{filled}
+use Rattle.lines.specs.Frame.{tenBytes}
 use Rattle.lines.proofs.RefusalLaws.{line-passed}
 use Rattle.frames.proofs.ReachLaws.{Reached, number-room, reached-start, line-refused, place-refused, reached-next, no-end, read-all}
 use Rattle.frames.proofs.read_lines.Statement.{statement}
@@ -20,7 +20,7 @@ abbrev μ-loop : tie.MeasureT-loop
 μ-loop text p₀ last₀ at₀ p last at = length text - at
 
 loop-holds : tie.Need-loop-holds Inv-loop μ-loop
-unfolding filled tabFrom
+unfolding tenBytes tabFrom
 loop-holds c = reached-start _ _ _ (c .blank .ensures) refl
 
 returns : tie.Need-returns Inv-loop μ-loop

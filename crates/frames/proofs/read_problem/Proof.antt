@@ -6,12 +6,12 @@ use borrow.Author.Needs.{needs}
 use borrow.Author.Tests.{le-leb, lt-leb}
 use lib.ListN.{length}
 use Rattle.tasks.specs.Refusal.{unless}
-use Rattle.frames.specs.Read.{readWithin, told}
+use Rattle.frames.specs.Read.{readWithin, problemOf}
 use Rattle.frames.proofs.read_problem.Statement.{statement}
 use Rattle.frames.proofs.read_problem.Tie as tie
 
 returns : tie.Need-returns
-unfolding readWithin told unless
+unfolding readWithin problemOf unless
 returns c = c .blank .ensures ∙ rw (lt-leb (length (c .before .before .before .args .text .now)) 1024 (omega arith))
 
 returns-2 : tie.Need-returns-2

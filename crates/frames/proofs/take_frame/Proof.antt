@@ -1,7 +1,7 @@
 -- `frames::take_frame` meets its contract: kind by kind what the definition says.
 -- Assumes nothing.
 use borrow.Author.Needs.{needs}
-use Rattle.frames.specs.Read.{told}
+use Rattle.frames.specs.Read.{problemOf}
 use Rattle.frames.proofs.TaskLaws.{cores-said, task-said, limit-said, nothing-said}
 use Rattle.frames.proofs.take_frame.Statement.{statement}
 use Rattle.frames.proofs.take_frame.Tie as tie
@@ -13,7 +13,7 @@ returns : tie.Need-returns
 returns c = λ s e q f g. cores-said s _ _ f e g (c .match .keys1)
 
 returns-2 : tie.Need-returns-2
-unfolding told
+unfolding problemOf
 returns-2 c =
     let k = c .before .before in
     λ s e q f g. task-said s _ _ f e g _ _ _ (k .match .keys2) q (k .before .pre (k .match .keys2)) (c .before .task-of .ensures) (c .add-task .ensures)

@@ -3,12 +3,12 @@
 use mathlib.Core.Path.{refl}
 use Rattle.laws.specs.Lists.{tabFrom}
 use Rattle.tasks.specs.Task.{listOf}
-use Rattle.lent.specs.Scan.{refusedBy}
+use Rattle.lent.specs.Scan.{refusedLent}
 use Rattle.lent.proofs.refused.Statement.{statement}
 use Rattle.lent.proofs.refused.Tie as tie
 
 returns : tie.Need-returns
-unfolding refusedBy listOf tabFrom
+unfolding refusedLent listOf tabFrom
 returns c = refl
 
 pub refused-spec : {M : Type 1} → statement M

@@ -54,7 +54,7 @@ use Rattle.tasks.proofs.Task.Laws as T′
 use Rattle.tasks.proofs.Rates as R
 use Rattle.tasks.proofs.Rates.Laws as R′
 use Rattle.lent.specs.declared.Lent.{Lent}
-use Rattle.lent.specs.Scan.{countRefusal, refusedBy, Scanned, goesOn, taken}
+use Rattle.lent.specs.Scan.{countRefusal, refusedLent, Scanned, moreToScan, takenTask}
 use Rattle.lent.proofs.ScanLaws.{Reached, reach-first, reach-next, reach-end, reach-less, reach-room}
 use Rattle.lent.proofs.Lent as S
 use Rattle.lent.proofs.Lent.Laws as S′
@@ -62,10 +62,10 @@ use Rattle.lent.proofs.begin as begin
 use Rattle.lent.proofs.begin.Symbol as begin-def
 use Rattle.lent.proofs.begin.Symbol.{name as #lent·begin}
 use Rattle.lent.proofs.begin.Met as begin-thm
-use Rattle.lent.proofs.goes_on as goes-on
-use Rattle.lent.proofs.goes_on.Symbol as goes-on-def
-use Rattle.lent.proofs.goes_on.Symbol.{name as #lent·goes-on}
-use Rattle.lent.proofs.goes_on.Met as goes-on-thm
+use Rattle.lent.proofs.more_to_scan as more-to-scan
+use Rattle.lent.proofs.more_to_scan.Symbol as more-to-scan-def
+use Rattle.lent.proofs.more_to_scan.Symbol.{name as #lent·more-to-scan}
+use Rattle.lent.proofs.more_to_scan.Met as more-to-scan-thm
 use Rattle.lent.proofs.take_task as take-task
 use Rattle.lent.proofs.take_task.Symbol as take-task-def
 use Rattle.lent.proofs.take_task.Symbol.{name as #lent·take-task}
@@ -117,19 +117,19 @@ module _ {M : Type 1} (𝓤 : URA M) (H : Heap 𝓤) (A : Atoms 𝓤) (mem : Mem
   Begin = tripleOf 𝓤 H A begin.signature (begin.spec 𝓤 H A mem run)
 
   abbrev GoesOn : Contract 𝓤
-  GoesOn = tripleOf 𝓤 H A goes-on.signature (goes-on.spec 𝓤 H A mem run)
+  GoesOn = tripleOf 𝓤 H A more-to-scan.signature (more-to-scan.spec 𝓤 H A mem run)
 
   abbrev Take : Contract 𝓤
   Take = tripleOf 𝓤 H A take-task.signature (take-task.spec 𝓤 H A mem run)
 
-  begin-is : (n m : ℕ) (r : Lent) → ent 𝓤 (ensured 𝓤 H A begin.ended (begin.clauses 𝓤 H A mem run) tt (n, (m, tt)) tt r) (fact 𝓤 (r ≡ refusedBy (countRefusal n m 0)))
-  begin-is n m r = exE 𝓤 _ (λ ws. snd∗ 𝓤 (sem 𝓤 H A (lasts begin.ended tt (n, (m, tt)) ws)) (fact 𝓤 (r ≡ refusedBy (countRefusal n m 0))))
+  begin-is : (n m : ℕ) (r : Lent) → ent 𝓤 (ensured 𝓤 H A begin.ended (begin.clauses 𝓤 H A mem run) tt (n, (m, tt)) tt r) (fact 𝓤 (r ≡ refusedLent (countRefusal n m 0)))
+  begin-is n m r = exE 𝓤 _ (λ ws. snd∗ 𝓤 (sem 𝓤 H A (lasts begin.ended tt (n, (m, tt)) ws)) (fact 𝓤 (r ≡ refusedLent (countRefusal n m 0))))
 
-  goes-on-is : (l : Lent) (i n : ℕ) (t : Bool) → ent 𝓤 (ensured 𝓤 H A goes-on.ended (goes-on.clauses 𝓤 H A mem run) tt (l, (i, (n, tt))) tt t) (fact 𝓤 (t ≡ goesOn l i n))
-  goes-on-is l i n t = exE 𝓤 _ (λ ws. snd∗ 𝓤 (sem 𝓤 H A (lasts goes-on.ended tt (l, (i, (n, tt))) ws)) (fact 𝓤 (t ≡ goesOn l i n)))
+  more-to-scan-is : (l : Lent) (i n : ℕ) (t : Bool) → ent 𝓤 (ensured 𝓤 H A more-to-scan.ended (more-to-scan.clauses 𝓤 H A mem run) tt (l, (i, (n, tt))) tt t) (fact 𝓤 (t ≡ moreToScan l i n))
+  more-to-scan-is l i n t = exE 𝓤 _ (λ ws. snd∗ 𝓤 (sem 𝓤 H A (lasts more-to-scan.ended tt (l, (i, (n, tt))) ws)) (fact 𝓤 (t ≡ moreToScan l i n)))
 
-  take-is : (l : Lent) (t : Task) (m : ℕ) (r : Lent) → ent 𝓤 (ensured 𝓤 H A take-task.ended (take-task.clauses 𝓤 H A mem run) tt (l, (t, (m, tt))) tt r) (fact 𝓤 (r ≡ taken m l t))
-  take-is l t m r = exE 𝓤 _ (λ ws. snd∗ 𝓤 (sem 𝓤 H A (lasts take-task.ended tt (l, (t, (m, tt))) ws)) (fact 𝓤 (r ≡ taken m l t)))
+  take-is : (l : Lent) (t : Task) (m : ℕ) (r : Lent) → ent 𝓤 (ensured 𝓤 H A take-task.ended (take-task.clauses 𝓤 H A mem run) tt (l, (t, (m, tt))) tt r) (fact 𝓤 (r ≡ takenTask m l t))
+  take-is l t m r = exE 𝓤 _ (λ ws. snd∗ 𝓤 (sem 𝓤 H A (lasts take-task.ended tt (l, (t, (m, tt))) ws)) (fact 𝓤 (r ≡ takenTask m l t)))
 
 -- the loop's variant: where the scan stands
 record Upto (m : ℕ) (ys : List Task) : Type 0 where
@@ -172,11 +172,11 @@ module _ {M : Type 1} (𝓤 : URA M) (H : Heap 𝓤) (A : Atoms 𝓤) (W : Given
       qed W (‵ ftrue ∷ []) ∵ owned ! u8 (Is u8) (uint-makes 𝓤 H A W w8) m _ (refl, m-fits) $ fjoin ! $ owned ! usize (Is usize) (uint-makes 𝓤 H A W w64) n _ (refl, n-fits) $ fjoin ! $
       nothing ! $ join ! $ frame ! $ done !
 
-  abbrev to-goes-on : Lent → ℕ → GoesOn 𝓤 H A mem run .Ghost
-  to-goes-on r i = ((tt, tt, tt, (r, (i, (n, tt))), (lent-vals r, (vint w64 i ∷ [], (vint w64 n ∷ [], tt)))), tt)
+  abbrev to-more-to-scan : Lent → ℕ → GoesOn 𝓤 H A mem run .Ghost
+  to-more-to-scan r i = ((tt, tt, tt, (r, (i, (n, tt))), (lent-vals r, (vint w64 i ∷ [], (vint w64 n ∷ [], tt)))), tt)
 
-  goes-goes-on : (r : Lent) (i : ℕ) → Good r → i < 2 ^ 64 → n < 2 ^ 64 → ent 𝓤 (sem 𝓤 H A ftrue) (GoesOn 𝓤 H A mem run .pre (to-goes-on r i))
-  goes-goes-on r i is i-fits n-fits =
+  goes-more-to-scan : (r : Lent) (i : ℕ) → Good r → i < 2 ^ 64 → n < 2 ^ 64 → ent 𝓤 (sem 𝓤 H A ftrue) (GoesOn 𝓤 H A mem run .pre (to-more-to-scan r i))
+  goes-more-to-scan r i is i-fits n-fits =
       qed W (‵ ftrue ∷ []) ∵ owned ! usize (Is usize) (uint-makes 𝓤 H A W w64) n _ (refl, n-fits) $ fjoin ! $ owned ! usize (Is usize) (uint-makes 𝓤 H A W w64) i _ (refl, i-fits) $ fjoin ! $
       owned ! S.the-row (Is S.the-row) ((LL.makes S.the-type S′.the-plain) 𝓤 H A) r _ is $ fjoin ! $ nothing ! $ join ! $ frame ! $ done !
 
@@ -196,7 +196,7 @@ module _ {M : Type 1} (𝓤 : URA M) (H : Heap 𝓤) (A : Atoms 𝓤) (W : Given
   Nearer-wf = InvImage·wf (λ (u : Upto m ys). n - u .i) (Nat·lt-wfRel .wf)
 
   -- ---- the walk
-  module _ (𝓣 : Tables 𝓤 H) (gn : Room T.the-row n) (known-begin : Triple 𝓤 (𝓣 .C #lent·begin) (Begin 𝓤 H A mem run)) (known-goes-on : Triple 𝓤 (𝓣 .C #lent·goes-on) (GoesOn 𝓤 H A mem run)) (known-take : Triple 𝓤 (𝓣 .C #lent·take-task) (Take 𝓤 H A mem run)) where
+  module _ (𝓣 : Tables 𝓤 H) (gn : Room T.the-row n) (known-begin : Triple 𝓤 (𝓣 .C #lent·begin) (Begin 𝓤 H A mem run)) (known-more-to-scan : Triple 𝓤 (𝓣 .C #lent·more-to-scan) (GoesOn 𝓤 H A mem run)) (known-take : Triple 𝓤 (𝓣 .C #lent·take-task) (Take 𝓤 H A mem run)) where
     abbrev C : Calls 𝓤 H
     C = 𝓣 .C
 
@@ -222,14 +222,14 @@ module _ {M : Type 1} (𝓤 : URA M) (H : Heap 𝓤) (A : Atoms 𝓤) (W : Given
       fits : (i : ℕ) → i ≤ n → i < 2 ^ 64
       fits i h = lt-of-le-of-lt h (gn .0)
 
-      turn-on : (u : Upto m ys) (y : Bool) → goesOn (u .lent) (u .i) n ≡ y → Sq W (At u) (runs C Λ En Mir.turn-1 (anyQ (Turned u)))
+      turn-on : (u : Upto m ys) (y : Bool) → moreToScan (u .lent) (u .i) n ≡ y → Sq W (At u) (runs C Λ En Mir.turn-1 (anyQ (Turned u)))
       unfolding afterTurn
       turn-on u true e =
           assigns ! (of-opd ! (load ! (from ! (fld ! refl (stop !))) (look-in ! 18 (sub ! 1 refl (whole !))))) (from ! (stop !)) (init ! 6 refl (tt, record { fits = gn .0 })) $
-          nothing ! $ use1 W (raw (GoesOn 𝓤 H A mem run .pre (to-goes-on (u .lent) (u .i)))) (goes-goes-on (u .lent) (u .i) (u .is) (fits (u .i) (u .le)) (gn .0)) $
-          calls-at ! fm (GoesOn 𝓤 H A mem run) known-goes-on (to-goes-on (u .lent) (u .i)) (and-then ! (load ! (from ! (stop !)) (look ! 15 refl)) (and-then ! (load ! (from ! (stop !)) (look ! 13 refl)) (and-then ! (load ! (from ! (stop !)) (look ! 7 refl)) (no-more !)))) (λ v.
-          use1 W (later (some (λ (t : Bool). (‵ ftrue ⊛ ‵ (bool .own t (v ∷ []))) ⊛ raw (ensured 𝓤 H A goes-on.ended (goes-on.clauses 𝓤 H A mem run) tt (u .lent, (u .i, (n, tt))) tt t)))) (id⊢ 𝓤 _) $ await ! tt $ pick ! (λ t.
-          split ! $ move ! (1 ∷ []) $ use1 W (raw (fact 𝓤 (t ≡ goesOn (u .lent) (u .i) n))) (goes-on-is 𝓤 H A mem run (u .lent) (u .i) n t) $ heard ! (t ≡ goesOn (u .lent) (u .i) n) (λ is-t. split ! $ drop ! $
+          nothing ! $ use1 W (raw (GoesOn 𝓤 H A mem run .pre (to-more-to-scan (u .lent) (u .i)))) (goes-more-to-scan (u .lent) (u .i) (u .is) (fits (u .i) (u .le)) (gn .0)) $
+          calls-at ! fm (GoesOn 𝓤 H A mem run) known-more-to-scan (to-more-to-scan (u .lent) (u .i)) (and-then ! (load ! (from ! (stop !)) (look ! 15 refl)) (and-then ! (load ! (from ! (stop !)) (look ! 13 refl)) (and-then ! (load ! (from ! (stop !)) (look ! 7 refl)) (no-more !)))) (λ v.
+          use1 W (later (some (λ (t : Bool). (‵ ftrue ⊛ ‵ (bool .own t (v ∷ []))) ⊛ raw (ensured 𝓤 H A more-to-scan.ended (more-to-scan.clauses 𝓤 H A mem run) tt (u .lent, (u .i, (n, tt))) tt t)))) (id⊢ 𝓤 _) $ await ! tt $ pick ! (λ t.
+          split ! $ move ! (1 ∷ []) $ use1 W (raw (fact 𝓤 (t ≡ moreToScan (u .lent) (u .i) n))) (more-to-scan-is 𝓤 H A mem run (u .lent) (u .i) n t) $ heard ! (t ≡ moreToScan (u .lent) (u .i) n) (λ is-t. split ! $ drop ! $
           peeks ! bool (Is bool) (shows 𝓤 H A bool) t (v ∷ []) (λ is-v.
           land ! (from ! (stop !)) (init ! 9 refl (bool-lawful 𝓤 H A W .typed t _ is-v .0)) $
           rewrite ! 9 (λ (w : Val). ‵ (fat fullShare tyBool l₆ 0 w)) (ap only (bool-tells t (v ∷ []) is-v)) refl $ drop ! $
@@ -252,7 +252,7 @@ module _ {M : Type 1} (𝓤 : URA M) (H : Heap 𝓤) (A : Atoms 𝓤) (W : Given
           nothing ! $ use1 W (raw (Take 𝓤 H A mem run .pre (to-take (u .lent) t₀))) (goes-take (u .lent) t₀ (u .is) g (reach-room m ys (u .i) (u .lent) (u .reached) e)) $
           calls-at ! fm (Take 𝓤 H A mem run) known-take (to-take (u .lent) t₀) (and-then ! (load ! (from ! (stop !)) (look ! 15 refl)) (and-then ! (load ! (from ! (stop !)) (look ! 3 refl)) (and-then ! (load ! (from ! (stop !)) (look ! 17 refl)) (no-more !)))) (λ w.
           use1 W (later (some (λ (r : Lent). (‵ ftrue ⊛ ‵ (S.the-row .own r (w ∷ []))) ⊛ raw (ensured 𝓤 H A take-task.ended (take-task.clauses 𝓤 H A mem run) tt (u .lent, (t₀, (m, tt))) tt r)))) (id⊢ 𝓤 _) $ await ! tt $ pick ! (λ r.
-          split ! $ move ! (1 ∷ []) $ use1 W (raw (fact 𝓤 (r ≡ taken m (u .lent) t₀))) (take-is 𝓤 H A mem run (u .lent) t₀ m r) $ heard ! (r ≡ taken m (u .lent) t₀) (λ is-r. split ! $ drop ! $
+          split ! $ move ! (1 ∷ []) $ use1 W (raw (fact 𝓤 (r ≡ takenTask m (u .lent) t₀))) (take-is 𝓤 H A mem run (u .lent) t₀ m r) $ heard ! (r ≡ takenTask m (u .lent) t₀) (λ is-r. split ! $ drop ! $
           peeks ! S.the-row (Is S.the-row) (shows 𝓤 H A S.the-row) r (w ∷ []) (λ is-w.
           land ! (from ! (stop !)) (store ! 15 refl (LL.lawful S.the-type S′.the-laws 𝓤 H A W .typed r _ is-w .0)) $
           rewrite ! 15 (λ (z : Val). ‵ (fat fullShare lentτ l₃ 0 z)) (ap only (S′.lowers .val-is r (w ∷ []) is-w)) refl $ drop ! $
@@ -272,10 +272,10 @@ module _ {M : Type 1} (𝓤 : URA M) (H : Heap 𝓤) (A : Atoms 𝓤) (W : Given
           t₀ = getD ys (u .i) noTask
       turn-on u false e =
           assigns ! (of-opd ! (load ! (from ! (fld ! refl (stop !))) (look-in ! 18 (sub ! 1 refl (whole !))))) (from ! (stop !)) (init ! 6 refl (tt, record { fits = gn .0 })) $
-          nothing ! $ use1 W (raw (GoesOn 𝓤 H A mem run .pre (to-goes-on (u .lent) (u .i)))) (goes-goes-on (u .lent) (u .i) (u .is) (fits (u .i) (u .le)) (gn .0)) $
-          calls-at ! fm (GoesOn 𝓤 H A mem run) known-goes-on (to-goes-on (u .lent) (u .i)) (and-then ! (load ! (from ! (stop !)) (look ! 15 refl)) (and-then ! (load ! (from ! (stop !)) (look ! 13 refl)) (and-then ! (load ! (from ! (stop !)) (look ! 7 refl)) (no-more !)))) (λ v.
-          use1 W (later (some (λ (t : Bool). (‵ ftrue ⊛ ‵ (bool .own t (v ∷ []))) ⊛ raw (ensured 𝓤 H A goes-on.ended (goes-on.clauses 𝓤 H A mem run) tt (u .lent, (u .i, (n, tt))) tt t)))) (id⊢ 𝓤 _) $ await ! tt $ pick ! (λ t.
-          split ! $ move ! (1 ∷ []) $ use1 W (raw (fact 𝓤 (t ≡ goesOn (u .lent) (u .i) n))) (goes-on-is 𝓤 H A mem run (u .lent) (u .i) n t) $ heard ! (t ≡ goesOn (u .lent) (u .i) n) (λ is-t. split ! $ drop ! $
+          nothing ! $ use1 W (raw (GoesOn 𝓤 H A mem run .pre (to-more-to-scan (u .lent) (u .i)))) (goes-more-to-scan (u .lent) (u .i) (u .is) (fits (u .i) (u .le)) (gn .0)) $
+          calls-at ! fm (GoesOn 𝓤 H A mem run) known-more-to-scan (to-more-to-scan (u .lent) (u .i)) (and-then ! (load ! (from ! (stop !)) (look ! 15 refl)) (and-then ! (load ! (from ! (stop !)) (look ! 13 refl)) (and-then ! (load ! (from ! (stop !)) (look ! 7 refl)) (no-more !)))) (λ v.
+          use1 W (later (some (λ (t : Bool). (‵ ftrue ⊛ ‵ (bool .own t (v ∷ []))) ⊛ raw (ensured 𝓤 H A more-to-scan.ended (more-to-scan.clauses 𝓤 H A mem run) tt (u .lent, (u .i, (n, tt))) tt t)))) (id⊢ 𝓤 _) $ await ! tt $ pick ! (λ t.
+          split ! $ move ! (1 ∷ []) $ use1 W (raw (fact 𝓤 (t ≡ moreToScan (u .lent) (u .i) n))) (more-to-scan-is 𝓤 H A mem run (u .lent) (u .i) n t) $ heard ! (t ≡ moreToScan (u .lent) (u .i) n) (λ is-t. split ! $ drop ! $
           peeks ! bool (Is bool) (shows 𝓤 H A bool) t (v ∷ []) (λ is-v.
           land ! (from ! (stop !)) (init ! 9 refl (bool-lawful 𝓤 H A W .typed t _ is-v .0)) $
           rewrite ! 9 (λ (w : Val). ‵ (fat fullShare tyBool l₆ 0 w)) (ap only (bool-tells t (v ∷ []) is-v)) refl $ drop ! $
@@ -288,7 +288,7 @@ module _ {M : Type 1} (𝓤 : URA M) (H : Heap 𝓤) (A : Atoms 𝓤) (W : Given
           by ! (exits (u .lent) (reach-end m ys (u .i) (u .lent) (u .le) (u .reached) e) (u .is))))))
 
       looped : (u : Upto m ys) → ent 𝓤 (⋆ 𝓤 H A (At u)) (Wp 𝓤 H C Λ En Mir.t-4 (atReturn 𝓤 H En Post))
-      looped u = qed W (At u) ∵ exec ! C Λ En Mir.t-4 (atRet En Post) $ first ! $ blocks ! $ loops ! 𝓣 Nearer Nearer-wf At (λ v. turn-on v (goesOn (v .lent) (v .i) n) refl) u
+      looped u = qed W (At u) ∵ exec ! C Λ En Mir.t-4 (atRet En Post) $ first ! $ blocks ! $ loops ! 𝓣 Nearer Nearer-wf At (λ v. turn-on v (moreToScan (v .lent) (v .i) n) refl) u
 
       abbrev Entered : List (Item 𝓤)
       Entered = ‵ (froom taskτ l₉ 0) ∷ ‵ (fdies taskτ l₉) ∷ ‵ (froom tyPtr l₈ 0) ∷ ‵ (fdies tyPtr l₈) ∷ ‵ (froom (tyInt w64) l₇ 0) ∷ ‵ (fdies (tyInt w64) l₇) ∷ ‵ (froom tyBool l₆ 0) ∷ ‵ (fdies tyBool l₆)
@@ -303,7 +303,7 @@ module _ {M : Type 1} (𝓤 : URA M) (H : Heap 𝓤) (A : Atoms 𝓤) (W : Given
           nothing ! $ use1 W (raw (Begin 𝓤 H A mem run .pre to-begin)) (goes-begin (gn .0)) $
           calls-at ! fm (Begin 𝓤 H A mem run) known-begin to-begin (and-then ! (load ! (from ! (stop !)) (look ! 9 refl)) (and-then ! (load ! (from ! (stop !)) (look ! 15 refl)) (no-more !))) (λ v.
           use1 W (later (some (λ (r : Lent). (‵ ftrue ⊛ ‵ (S.the-row .own r (v ∷ []))) ⊛ raw (ensured 𝓤 H A begin.ended (begin.clauses 𝓤 H A mem run) tt (n, (m, tt)) tt r)))) (id⊢ 𝓤 _) $ await ! tt $ pick ! (λ r.
-          split ! $ move ! (1 ∷ []) $ use1 W (raw (fact 𝓤 (r ≡ refusedBy (countRefusal n m 0)))) (begin-is 𝓤 H A mem run n m r) $ heard ! (r ≡ refusedBy (countRefusal n m 0)) (λ is-r. split ! $ drop ! $
+          split ! $ move ! (1 ∷ []) $ use1 W (raw (fact 𝓤 (r ≡ refusedLent (countRefusal n m 0)))) (begin-is 𝓤 H A mem run n m r) $ heard ! (r ≡ refusedLent (countRefusal n m 0)) (λ is-r. split ! $ drop ! $
           peeks ! S.the-row (Is S.the-row) (shows 𝓤 H A S.the-row) r (v ∷ []) (λ is.
           land ! (from ! (stop !)) (init ! 13 refl (LL.lawful S.the-type S′.the-laws 𝓤 H A W .typed r _ is .0)) $
           rewrite ! 13 (λ (z : Val). ‵ (fat fullShare lentτ l₃ 0 z)) (ap only (S′.lowers .val-is r (v ∷ []) is)) refl $ drop ! $
@@ -319,10 +319,10 @@ module _ {M : Type 1} (𝓤 : URA M) (H : Heap 𝓤) (A : Atoms 𝓤) (W : Given
         pass1 ! (init ! 16 refl (tt, (tt, (record { fits = gn .0 }, tt)))) $ pass1 ! (init ! 14 refl (tt, record { fits = m-fits })) $ pass0 ! $
         by ! (started l₀ l₁ l₂ l₃ l₄ l₅ l₆ l₇ l₈ l₉)))))))))))
 
-module _ {M : Type 1} (𝓤 : URA M) (H : Heap 𝓤) (A : Atoms 𝓤) (W : Given 𝓤 H A) (mem : Memory → SProp 𝓤) (run : Routine → Fun 𝓤) (𝓣 : Tables 𝓤 H) (known-begin : Triple 𝓤 (𝓣 .C #lent·begin) (Begin 𝓤 H A mem run)) (known-goes-on : Triple 𝓤 (𝓣 .C #lent·goes-on) (GoesOn 𝓤 H A mem run)) (known-take : Triple 𝓤 (𝓣 .C #lent·take-task) (Take 𝓤 H A mem run)) where
+module _ {M : Type 1} (𝓤 : URA M) (H : Heap 𝓤) (A : Atoms 𝓤) (W : Given 𝓤 H A) (mem : Memory → SProp 𝓤) (run : Routine → Fun 𝓤) (𝓣 : Tables 𝓤 H) (known-begin : Triple 𝓤 (𝓣 .C #lent·begin) (Begin 𝓤 H A mem run)) (known-more-to-scan : Triple 𝓤 (𝓣 .C #lent·more-to-scan) (GoesOn 𝓤 H A mem run)) (known-take : Triple 𝓤 (𝓣 .C #lent·take-task) (Take 𝓤 H A mem run)) where
   f-walks : Walks 𝓤 H A f.ended stayed (WpFn 𝓤 H (𝓣 .C) (𝓣 .Λ) code.function) (f.clauses 𝓤 H A mem run)
   f-walks = walked 𝓤 H A f.ended stayed (f.clauses 𝓤 H A mem run) (WpFn 𝓤 H (𝓣 .C) (𝓣 .Λ) code.function) (λ κs. (slice-vals, (uint-vals w8, tt))) (λ κs. (shr-slice-tells (named 0) (κs .0) T.the-row, (uint-tells w8, tt)))
-      (λ κs qs bounds a g are. via 𝓤 _ (fst∗ 𝓤 _ (emp 𝓤)) (walk 𝓤 H A W mem run (κs .0) (qs .0) (a .0 .ptr .0) (a .0 .ptr .1) (a .0 .name) (a .0 .now) (a .1 .0) (are .1 .0 .1) 𝓣 (are .0 .0 .1) known-begin known-goes-on known-take))
+      (λ κs qs bounds a g are. via 𝓤 _ (fst∗ 𝓤 _ (emp 𝓤)) (walk 𝓤 H A W mem run (κs .0) (qs .0) (a .0 .ptr .0) (a .0 .ptr .1) (a .0 .name) (a .0 .now) (a .1 .0) (are .1 .0 .1) 𝓣 (are .0 .0 .1) known-begin known-more-to-scan known-take))
 
   f-meets : Meets 𝓤 H A f.signature (WpFn 𝓤 H (𝓣 .C) (𝓣 .Λ) code.function) (f.spec 𝓤 H A mem run)
   f-meets = walk-meets 𝓤 H A f.ended stayed W (goes-none-slice 𝓤 H A W 1 (0 ∷ []) tt (plain (λ _. T.the-row)) yes, (goes-none 𝓤 H A W 1 (λ _. u8) yes (λ κs x f. refl), tt)) (f.clauses 𝓤 H A mem run) (WpFn 𝓤 H (𝓣 .C) (𝓣 .Λ) code.function) (WpFn-mono 𝓤 H (W .laws) 𝓣 code.function) f-walks
@@ -334,5 +334,5 @@ scan-spec 𝓤 H 𝓜 𝓖 𝓡 =
     (tables 𝓤 H 𝓜 𝓡 code.env .C) (tables 𝓤 H 𝓜 𝓡 code.env .Λ) #lent·scan code.function (code.unfolded 𝓤 H 𝓜 𝓡)
     (f-meets 𝓤 H (𝓖 .A) (givenOf 𝓤 H 𝓜 𝓖) (𝓜 .mem) (𝓡 .run) (tablesOf 𝓤 H 𝓜 (tables 𝓤 H 𝓜 𝓡 code.env))
     (cited 𝓤 H (Begin 𝓤 H (𝓖 .A) (𝓜 .mem) (𝓡 .run)) 𝓜 𝓡 code.env #lent·begin begin-def.routine code.calls-lent·begin (begin-thm.met 𝓤 H 𝓜 𝓖 𝓡))
-    (cited 𝓤 H (GoesOn 𝓤 H (𝓖 .A) (𝓜 .mem) (𝓡 .run)) 𝓜 𝓡 code.env #lent·goes-on goes-on-def.routine code.calls-lent·goes-on (goes-on-thm.met 𝓤 H 𝓜 𝓖 𝓡))
+    (cited 𝓤 H (GoesOn 𝓤 H (𝓖 .A) (𝓜 .mem) (𝓡 .run)) 𝓜 𝓡 code.env #lent·more-to-scan more-to-scan-def.routine code.calls-lent·more-to-scan (more-to-scan-thm.met 𝓤 H 𝓜 𝓖 𝓡))
     (cited 𝓤 H (Take 𝓤 H (𝓖 .A) (𝓜 .mem) (𝓡 .run)) 𝓜 𝓡 code.env #lent·take-task take-task-def.routine code.calls-lent·take-task (take-task-thm.met 𝓤 H 𝓜 𝓖 𝓡)))

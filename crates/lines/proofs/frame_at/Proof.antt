@@ -8,19 +8,19 @@ use lib.ListN.{take}
 use lib.Seq.{slice, length-slice}
 use Rattle.laws.specs.Lists.{tabFrom}
 use Rattle.lines.specs.Lines.{bytesOf}
-use Rattle.lines.specs.Frame.{filled}
+use Rattle.lines.specs.Frame.{tenBytes}
 use Rattle.lines.proofs.LineLaws.{bytes-length, filled-more, filled-all, part-byte}
 use Rattle.lines.proofs.frame_at.Statement.{statement}
 use Rattle.lines.proofs.frame_at.Tie as tie
 
 abbrev Inv-loop : tie.InvT-loop
-Inv-loop text from to count frame₀ k₀ frame k = (k ≤ count) × (frame ≡ filled (take k (bytesOf (slice from to text))))
+Inv-loop text from to count frame₀ k₀ frame k = (k ≤ count) × (frame ≡ tenBytes (take k (bytesOf (slice from to text))))
 
 abbrev μ-loop : tie.MeasureT-loop
 μ-loop text from to count frame₀ k₀ frame k = count - k
 
 loop-holds : tie.Need-loop-holds Inv-loop μ-loop
-unfolding filled tabFrom
+unfolding tenBytes tabFrom
 loop-holds c = (omega arith, refl)
 
 loop-again : tie.Need-loop-again Inv-loop μ-loop

@@ -52,7 +52,7 @@ use Rattle.lent.proofs.scan.Symbol as scan-def
 use Rattle.lent.proofs.scan.Symbol.{name as #lent·scan}
 use Rattle.lent.proofs.scan.Met as scan-thm
 use Rattle.checker.specs.declared.Verdict.{Verdict}
-use Rattle.checker.specs.Checks.{toldOf}
+use Rattle.checker.specs.Checks.{checkedAs}
 use Rattle.checker.proofs.Verdict as D
 use Rattle.checker.proofs.Verdict.Laws as D′
 use Rattle.planner.proofs.ScanCall.{Scan, scan-says, Tasks, to-scan, goes-scan}
@@ -71,7 +71,7 @@ stayed = (stay-none-slice (0 ∷ []) tt (plain (λ _. T.the-row)) yes, (stay-non
 
 -- what `check_lent` says
 abbrev Said : Lent → ℕ → List ℕ → Verdict → Type 0
-Said s m t r = (ts : List Task) → Scanned m ts s → toldOf r ≡ check m ts t
+Said s m t r = (ts : List Task) → Scanned m ts s → checkedAs r ≡ check m ts t
 
 module _ {M : Type 1} (𝓤 : URA M) (H : Heap 𝓤) (A : Atoms 𝓤) (mem : Memory → SProp 𝓤) (run : Routine → Fun 𝓤) where
   abbrev Check : Contract 𝓤
@@ -105,7 +105,7 @@ module _ {M : Type 1} (𝓤 : URA M) (H : Heap 𝓤) (A : Atoms 𝓤) (W : Given
   abbrev Post : Val → SProp 𝓤
   Post = walkOf 𝓤 H A f.ended stayed (f.clauses 𝓤 H A mem run) .post (((κ, (κ′, tt)), (q, (q′, tt)), bounds, a, at), tt)
 
-  exits : (r : Verdict) (w : Val) → toldOf r ≡ check m (x .now) (y .now)
+  exits : (r : Verdict) (w : Val) → checkedAs r ≡ check m (x .now) (y .now)
       → ent 𝓤 (⋆ 𝓤 H A (‵ (flft κ q) ∷ ‵ (flft κ′ q′) ∷ ‵ (Tasks κ x) ∷ ‵ Table ∷ ‵ (D.the-row .own r (w ∷ [])) ∷ [])) (Post w)
   exits r w e =
       qed W (‵ (flft κ q) ∷ ‵ (flft κ′ q′) ∷ ‵ (Tasks κ x) ∷ ‵ Table ∷ ‵ (D.the-row .own r (w ∷ [])) ∷ []) ∵

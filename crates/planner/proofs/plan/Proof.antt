@@ -52,7 +52,7 @@ use Rattle.lent.proofs.scan.Symbol as scan-def
 use Rattle.lent.proofs.scan.Symbol.{name as #lent·scan}
 use Rattle.lent.proofs.scan.Met as scan-thm
 use Rattle.search.specs.declared.Answer.{Answer}
-use Rattle.search.specs.Told.{toldOf}
+use Rattle.search.specs.Told.{searchedAs}
 use Rattle.search.proofs.Answer as D
 use Rattle.search.proofs.Answer.Laws as D′
 use Rattle.planner.proofs.ScanCall.{Scan, scan-says, Tasks, to-scan, goes-scan}
@@ -71,7 +71,7 @@ stayed = (stay-none-slice (0 ∷ []) tt (plain (λ _. T.the-row)) yes, (stay-non
 
 -- what `search_lent` says
 abbrev Said : Lent → ℕ → ℕ → ℕ → List ℕ → Answer → List ℕ → Type 0
-Said s m e b zs r zs′ = (ts : List Task) → Scanned m ts s → toldOf r zs′ ≡ search m ts e b zs
+Said s m e b zs r zs′ = (ts : List Task) → Scanned m ts s → searchedAs r zs′ ≡ search m ts e b zs
 
 abbrev Search : {M : Type 1} (𝓤 : URA M) (H : Heap 𝓤) (A : Atoms 𝓤) (mem : Memory → SProp 𝓤) (run : Routine → Fun 𝓤) → Contract 𝓤
 Search 𝓤 H A mem run = tripleOf 𝓤 H A search-lent.signature (search-lent.spec 𝓤 H A mem run)
@@ -102,7 +102,7 @@ module _ {M : Type 1} (𝓤 : URA M) (H : Heap 𝓤) (A : Atoms 𝓤) (W : Given
   abbrev Post : Val → SProp 𝓤
   Post = walkOf 𝓤 H A f.ended stayed (f.clauses 𝓤 H A mem run) .post (((κ, (κ′, tt)), (q, (q′, tt)), bounds, a, at), tt)
 
-  exits : (r : Answer) (w : Val) (zs : List ℕ) → toldOf r zs ≡ search m (x .now) engine limit (y .now) → length zs ≡ length (y .now)
+  exits : (r : Answer) (w : Val) (zs : List ℕ) → searchedAs r zs ≡ search m (x .now) engine limit (y .now) → length zs ≡ length (y .now)
       → ent 𝓤 (⋆ 𝓤 H A (‵ (flft κ q) ∷ ‵ (flft κ′ q′) ∷ ‵ (Tasks κ x) ∷ ‵ (finally u8 (y .name) zs) ∷ ‵ (D.the-row .own r (w ∷ [])) ∷ [])) (Post w)
   exits r w zs e l =
       qed W (‵ (flft κ q) ∷ ‵ (flft κ′ q′) ∷ ‵ (Tasks κ x) ∷ ‵ (finally u8 (y .name) zs) ∷ ‵ (D.the-row .own r (w ∷ [])) ∷ []) ∵

@@ -6,7 +6,7 @@ use Rattle.player.proofs.first_shown.Statement.{statement}
 use Rattle.player.proofs.first_shown.Tie as tie
 
 returns : tie.Need-returns
-returns c = first-is _ _ _ _ (c .before .before .before .before .pre) (c .before .stays .ensures) (c .answer .ensures)
+returns c = first-is _ _ _ _ (c .before .before .before .before .pre) (c .before .stays .ensures) (c .show .ensures)
 
 pub first-shown-spec : {M : Type 1} → statement M
 first-shown-spec = tie.close (tie.spec

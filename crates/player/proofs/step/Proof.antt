@@ -1,5 +1,5 @@
 -- `player::step` meets its contract: a walk of its MIR, by hand. The borrow is opened; the record's numbers are copied out and passed to `clock::next_of`, of which only its contract is known;
--- four bytes of the table are read where they lie; three fields are stored, and what `clock::answer` makes of the rest is returned. The borrow is closed at the new record.
+-- four bytes of the table are read where they lie; three fields are stored, and what `clock::show` makes of the rest is returned. The borrow is closed at the new record.
 -- Assumes nothing.
 use mathlib.Core.Path.{_≡_, refl, sym, ap, _∙_, subst}
 use Prim.Native.Nat.{ℕ, zero, suc, _+_, _≤_, _<_, _^_}
@@ -46,7 +46,7 @@ use denote.Triple.Walked.{says, Stays, stay-ref, stay-none, walkOf, goes-none, g
 use denote.Exit.{yes}
 use Rattle.laws.specs.Lists.{nth}
 use Rattle.tasks.specs.declared.Slots.{Slots}
-use Rattle.clock.specs.Clock.{nextOf, answerOf}
+use Rattle.clock.specs.Clock.{nextOf, shownOf}
 use Rattle.clock.specs.declared.Next.{Next}
 use Rattle.clock.specs.declared.Shown.{Shown}
 use Rattle.player.specs.declared.Player.{Player}
@@ -65,10 +65,10 @@ use Rattle.clock.proofs.next_of as next-of
 use Rattle.clock.proofs.next_of.Symbol as next-of-def
 use Rattle.clock.proofs.next_of.Symbol.{name as #clock·next-of}
 use Rattle.clock.proofs.next_of.Met as next-of-thm
-use Rattle.clock.proofs.answer as answer
-use Rattle.clock.proofs.answer.Symbol as answer-def
-use Rattle.clock.proofs.answer.Symbol.{name as #clock·answer}
-use Rattle.clock.proofs.answer.Met as answer-thm
+use Rattle.clock.proofs.show as show
+use Rattle.clock.proofs.show.Symbol as show-def
+use Rattle.clock.proofs.show.Symbol.{name as #clock·show}
+use Rattle.clock.proofs.show.Met as show-thm
 use Rattle.player.proofs.step.Key.{name as #player·step}
 use Rattle.player.proofs.step as f
 use Rattle.player.proofs.step.Statement as stated
@@ -141,7 +141,7 @@ abbrev NextOf : {M : Type 1} (𝓤 : URA M) (H : Heap 𝓤) (A : Atoms 𝓤) (me
 NextOf 𝓤 H A mem run = tripleOf 𝓤 H A next-of.signature (next-of.spec 𝓤 H A mem run)
 
 abbrev Answer : {M : Type 1} (𝓤 : URA M) (H : Heap 𝓤) (A : Atoms 𝓤) (mem : Memory → SProp 𝓤) (run : Routine → Fun 𝓤) → Contract 𝓤
-Answer 𝓤 H A mem run = tripleOf 𝓤 H A answer.signature (answer.spec 𝓤 H A mem run)
+Answer 𝓤 H A mem run = tripleOf 𝓤 H A show.signature (show.spec 𝓤 H A mem run)
 
 module _ {M : Type 1} (𝓤 : URA M) (H : Heap 𝓤) (A : Atoms 𝓤) (W : Given 𝓤 H A) (at-mem : Memory → SProp 𝓤) (run : Routine → Fun 𝓤) (κ : Lft) (q : Share) (b o : ℕ) (γ : GName) (h : Player) (n : ℕ) (fits : n < 2 ^ 32) where
   abbrev x : Arg
@@ -164,9 +164,9 @@ module _ {M : Type 1} (𝓤 : URA M) (H : Heap 𝓤) (A : Atoms 𝓤) (W : Given
   abbrev first : Next → ℕ
   first r = nth (h .table) (r .at)
 
-  -- what `clock::answer` says of what it answers
+  -- what `clock::show` says of what it answers
   abbrev Answered : Next → Shown → Type 0
-  Answered r s = s ≡ answerOf r (h .m) (h .n) (h .offsets) (first r ∷ cell r 1 ∷ cell r 2 ∷ cell r 3 ∷ [])
+  Answered r s = s ≡ shownOf r (h .m) (h .n) (h .offsets) (first r ∷ cell r 1 ∷ cell r 2 ∷ cell r 3 ∷ [])
 
   -- what closing the borrow asks
   made : (r : Next) (vs us : List Val) → Is N.the-row r vs → Is T.the-row h us → Is T.the-row (stored h r) (T′.lowered (stored h r) ∷ [])
@@ -249,11 +249,11 @@ module _ {M : Type 1} (𝓤 : URA M) (H : Heap 𝓤) (A : Atoms 𝓤) (W : Given
       owned ! N.the-row (Is N.the-row) ((LL.makes N.the-type N′.the-plain) 𝓤 H A) r _ is $ fjoin ! $
       nothing ! $ join ! $ frame ! $ done !
 
-  answer-told : (r : Next) (s : Shown) → ent 𝓤 (ensured 𝓤 H A answer.ended (answer.clauses 𝓤 H A at-mem run) tt (to-answer r .0 .3) tt s) (fact 𝓤 (Answered r s))
-  answer-told r s = exE 𝓤 _ (λ ws. snd∗ 𝓤 (sem 𝓤 H A (lasts answer.ended tt (to-answer r .0 .3) ws)) (fact 𝓤 (Answered r s)))
+  answer-told : (r : Next) (s : Shown) → ent 𝓤 (ensured 𝓤 H A show.ended (show.clauses 𝓤 H A at-mem run) tt (to-answer r .0 .3) tt s) (fact 𝓤 (Answered r s))
+  answer-told r s = exE 𝓤 _ (λ ws. snd∗ 𝓤 (sem 𝓤 H A (lasts show.ended tt (to-answer r .0 .3) ws)) (fact 𝓤 (Answered r s)))
 
   -- ---- the walk
-  module _ (C : Calls 𝓤 H) (Λ : Loops 𝓤 H) (fm : FmC 𝓤 H (W .laws) C) (known-next : Triple 𝓤 (C #clock·next-of) (NextOf 𝓤 H A at-mem run)) (known-answer : Triple 𝓤 (C #clock·answer) (Answer 𝓤 H A at-mem run)) where
+  module _ (C : Calls 𝓤 H) (Λ : Loops 𝓤 H) (fm : FmC 𝓤 H (W .laws) C) (known-next : Triple 𝓤 (C #clock·next-of) (NextOf 𝓤 H A at-mem run)) (known-answer : Triple 𝓤 (C #clock·show) (Answer 𝓤 H A at-mem run)) where
     walk : ent 𝓤 (onEntry 𝓤 H A f.signature (κ, tt) (q, tt) x at) (WpFn 𝓤 H C Λ code.function (vptr b o ∷ vint w32 n ∷ []) Post)
     walk =
         qed W ((‵ (flft κ q) ⊛ ‵ ftrue) ∷ ‵ (owns (MutRef (named 0) κ T.the-row ∷ u32 ∷ []) x at) ∷ []) ∵ split ! $ move ! (2 ∷ []) $ fsplit ! $ fsplit3 ! $ drop ! $ move ! (0 ∷ 1 ∷ 3 ∷ []) $
@@ -305,13 +305,13 @@ module _ {M : Type 1} (𝓤 : URA M) (H : Heap 𝓤) (A : Atoms 𝓤) (W : Given
         assigns ! (of-opd ! (load ! (from ! (fld ! refl (stop !))) (look-in ! 52 (sub ! 0 refl (whole !))))) (from ! (hop ! (look ! 56 refl) (fld ! refl (stop !)))) (store-in ! 0 (sub ! 0 refl (whole !)) (tt, record { fits = LL.owed N.the-type N′.the-laws r (v ∷ []) is .0 .1 })) $
         assigns ! (of-opd ! (load ! (from ! (fld ! refl (fld ! refl (stop !)))) (look-in ! 52 (sub ! 0 refl (sub ! 3 refl (whole !)))))) (from ! (hop ! (look ! 56 refl) (fld ! refl (stop !)))) (store-in ! 0 (sub ! 2 refl (whole !)) (tt, record { fits = number-is (LL.owed N.the-type N′.the-laws r (v ∷ []) is .1 .1 .1 .0) .1 })) $
         assigns ! (of-opd ! (load ! (from ! (fld ! refl (fld ! refl (stop !)))) (look-in ! 52 (sub ! 0 refl (sub ! 4 refl (whole !)))))) (from ! (hop ! (look ! 56 refl) (fld ! refl (stop !)))) (store-in ! 0 (sub ! 3 refl (whole !)) (tt, record { fits = number-is (LL.owed N.the-type N′.the-laws r (v ∷ []) is .1 .1 .1 .1 .0) .1 })) $
-        -- m, n and the offsets are copied out, and `clock::answer` is called
+        -- m, n and the offsets are copied out, and `clock::show` is called
         assigns ! (of-opd ! (load ! (from ! (hop ! (look ! 56 refl) (fld ! refl (stop !)))) (look-in ! 0 (sub ! 5 refl (whole !))))) (from ! (stop !)) (store ! 26 refl (tt, record { fits = lies h _ was .m })) $
         assigns ! (of-opd ! (load ! (from ! (hop ! (look ! 56 refl) (fld ! refl (stop !)))) (look-in ! 0 (sub ! 6 refl (whole !))))) (from ! (stop !)) (store ! 24 refl (tt, record { fits = lies h _ was .n })) $
         assigns ! (of-opd ! (load ! (from ! (hop ! (look ! 56 refl) (fld ! refl (stop !)))) (look-in ! 0 (sub ! 4 refl (whole !))))) (from ! (stop !)) (init ! 4 refl (array-lawful 𝓤 H A W u16 (uint-lawful 𝓤 H A W w16) 16 .typed (h .offsets) _ (lies h _ was .offsets) .0)) $
         use0 W (raw (Answer 𝓤 H A at-mem run .pre (to-answer r))) (goes-answer r (lies h _ was) (subst (Is N.the-row r) (N′.lowers .val-is r (v ∷ []) is) is) (reads-in h n r e)) $
         calls-at ! fm (Answer 𝓤 H A at-mem run) known-answer (to-answer r) (and-then ! (load ! (from ! (stop !)) (look ! 53 refl)) (and-then ! (load ! (from ! (stop !)) (look ! 27 refl)) (and-then ! (load ! (from ! (stop !)) (look ! 25 refl)) (and-then ! (load ! (from ! (stop !)) (look ! 5 refl)) (and-then ! (load ! (from ! (stop !)) (look ! 49 refl)) (and-then ! (load ! (from ! (stop !)) (look ! 47 refl)) (and-then ! (load ! (from ! (stop !)) (look ! 45 refl)) (and-then ! (load ! (from ! (stop !)) (look ! 43 refl)) (no-more !))))))))) (λ w.
-        use1 W (later (some (λ (s : Shown). (‵ ftrue ⊛ ‵ (S.the-row .own s (w ∷ []))) ⊛ raw (ensured 𝓤 H A answer.ended (answer.clauses 𝓤 H A at-mem run) tt (to-answer r .0 .3) tt s)))) (id⊢ 𝓤 _) $ await ! tt $ pick ! (λ s.
+        use1 W (later (some (λ (s : Shown). (‵ ftrue ⊛ ‵ (S.the-row .own s (w ∷ []))) ⊛ raw (ensured 𝓤 H A show.ended (show.clauses 𝓤 H A at-mem run) tt (to-answer r .0 .3) tt s)))) (id⊢ 𝓤 _) $ await ! tt $ pick ! (λ s.
         split ! $ move ! (1 ∷ []) $ use1 W (raw (fact 𝓤 (Answered r s))) (answer-told r s) $ heard ! (Answered r s) (λ a. split ! $ drop ! $
         peeks ! S.the-row (Is S.the-row) (shows 𝓤 H A S.the-row) s (w ∷ []) (λ is-s.
         land ! (from ! (stop !)) (init ! 59 refl (LL.lawful S.the-type S′.the-laws 𝓤 H A W .typed s _ is-s .0)) $ drop ! $
@@ -322,7 +322,7 @@ module _ {M : Type 1} (𝓤 : URA M) (H : Heap 𝓤) (A : Atoms 𝓤) (W : Given
         move ! (57 ∷ 58 ∷ []) $ free1 ! $ move ! (55 ∷ 56 ∷ []) $ free1 ! $ move ! (53 ∷ 54 ∷ []) $ free1 ! $ move ! (51 ∷ 52 ∷ []) $ free1 ! $ move ! (49 ∷ 50 ∷ []) $ free1 ! $ move ! (47 ∷ 48 ∷ []) $ free1 ! $ move ! (45 ∷ 46 ∷ []) $ free1 ! $ move ! (43 ∷ 44 ∷ []) $ free1 ! $ move ! (41 ∷ 42 ∷ []) $ free1 ! $ move ! (39 ∷ 40 ∷ []) $ free1 ! $ move ! (37 ∷ 38 ∷ []) $ free1 ! $ move ! (35 ∷ 36 ∷ []) $ free1 ! $ move ! (33 ∷ 34 ∷ []) $ free1 ! $ move ! (31 ∷ 32 ∷ []) $ free1 ! $ move ! (29 ∷ 30 ∷ []) $ free1 ! $ move ! (27 ∷ 28 ∷ []) $ free1 ! $ move ! (25 ∷ 26 ∷ []) $ free1 ! $ move ! (23 ∷ 24 ∷ []) $ free1 ! $ move ! (21 ∷ 22 ∷ []) $ free1 ! $ move ! (19 ∷ 20 ∷ []) $ free1 ! $ move ! (17 ∷ 18 ∷ []) $ free1 ! $ move ! (15 ∷ 16 ∷ []) $ free1 ! $ move ! (13 ∷ 14 ∷ []) $ free1 ! $ move ! (11 ∷ 12 ∷ []) $ free1 ! $ move ! (9 ∷ 10 ∷ []) $ free1 ! $ move ! (7 ∷ 8 ∷ []) $ free1 ! $ move ! (5 ∷ 6 ∷ []) $ free1 ! $ move ! (3 ∷ 4 ∷ []) $ free1 ! $ free0 ! $
         keep ! (0 ∷ 1 ∷ 2 ∷ []) $ by ! (exits r s w e a is-s)))))))))))))))))))))))))))))))))))))))
 
-module _ {M : Type 1} (𝓤 : URA M) (H : Heap 𝓤) (A : Atoms 𝓤) (W : Given 𝓤 H A) (at-mem : Memory → SProp 𝓤) (run : Routine → Fun 𝓤) (𝓣 : Tables 𝓤 H) (known-next : Triple 𝓤 (𝓣 .C #clock·next-of) (NextOf 𝓤 H A at-mem run)) (known-answer : Triple 𝓤 (𝓣 .C #clock·answer) (Answer 𝓤 H A at-mem run)) where
+module _ {M : Type 1} (𝓤 : URA M) (H : Heap 𝓤) (A : Atoms 𝓤) (W : Given 𝓤 H A) (at-mem : Memory → SProp 𝓤) (run : Routine → Fun 𝓤) (𝓣 : Tables 𝓤 H) (known-next : Triple 𝓤 (𝓣 .C #clock·next-of) (NextOf 𝓤 H A at-mem run)) (known-answer : Triple 𝓤 (𝓣 .C #clock·show) (Answer 𝓤 H A at-mem run)) where
   f-walks : Walks 𝓤 H A f.ended stayed (WpFn 𝓤 H (𝓣 .C) (𝓣 .Λ) code.function) (f.clauses 𝓤 H A at-mem run)
   f-walks = walked 𝓤 H A f.ended stayed (f.clauses 𝓤 H A at-mem run) (WpFn 𝓤 H (𝓣 .C) (𝓣 .Λ) code.function) (λ κs. (ptr-vals, (uint-vals w32, tt))) (λ κs. (mut-tells (named 0) (κs .0) T.the-row, (uint-tells w32, tt)))
       (λ κs qs bounds a _ are. via 𝓤 _ (fst∗ 𝓤 _ (emp 𝓤)) (walk 𝓤 H A W at-mem run (κs .0) (qs .0) (a .0 .ptr .0) (a .0 .ptr .1) (a .0 .name) (a .0 .now) (a .1 .0) (are .1 .0 .1) (𝓣 .C) (𝓣 .Λ) (fmOf 𝓤 H (W .laws) 𝓣) known-next known-answer))
@@ -337,4 +337,4 @@ step-spec 𝓤 H 𝓜 𝓖 𝓡 =
     (tables 𝓤 H 𝓜 𝓡 code.env .C) (tables 𝓤 H 𝓜 𝓡 code.env .Λ) #player·step code.function (code.unfolded 𝓤 H 𝓜 𝓡)
     (f-meets 𝓤 H (𝓖 .A) (givenOf 𝓤 H 𝓜 𝓖) (𝓜 .mem) (𝓡 .run) (tablesOf 𝓤 H 𝓜 (tables 𝓤 H 𝓜 𝓡 code.env))
     (cited 𝓤 H (NextOf 𝓤 H (𝓖 .A) (𝓜 .mem) (𝓡 .run)) 𝓜 𝓡 code.env #clock·next-of next-of-def.routine code.calls-clock·next-of (next-of-thm.met 𝓤 H 𝓜 𝓖 𝓡))
-    (cited 𝓤 H (Answer 𝓤 H (𝓖 .A) (𝓜 .mem) (𝓡 .run)) 𝓜 𝓡 code.env #clock·answer answer-def.routine code.calls-clock·answer (answer-thm.met 𝓤 H 𝓜 𝓖 𝓡)))
+    (cited 𝓤 H (Answer 𝓤 H (𝓖 .A) (𝓜 .mem) (𝓡 .run)) 𝓜 𝓡 code.env #clock·show show-def.routine code.calls-clock·show (show-thm.met 𝓤 H 𝓜 𝓖 𝓡)))

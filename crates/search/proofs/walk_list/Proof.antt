@@ -8,8 +8,8 @@ use Rattle.search.proofs.ToldLaws.{counted-up, walk-told}
 use Rattle.search.proofs.walk_list.Statement.{statement}
 use Rattle.search.proofs.walk_list.Tie as tie
 
-told-requires : tie.Need-told-requires
-told-requires c κs =
+walk-answer-requires : tie.Need-walk-answer-requires
+walk-answer-requires c κs =
     let start = c .before .before .before in
     counted-up _ _ _ _ _ (start .pre .0) (start .pre .1) (start .fits .limit .fits) _ _ refl refl _ _ _ (c .walk-cells .ensures .ran)
 
@@ -22,9 +22,9 @@ returns : tie.Need-returns
 returns c =
     let start = c .before .before .before .before .before .before .before .before .before .before .before in
     walk-told _ _ _ _ _ (start .pre .0) (start .pre .1) (start .fits .limit .fits) _ _ refl refl _ _ _ (c .before .before .before .before .before .before .before .before .walk-cells .ensures .ran)
-    _ (start .pre .2) _ (c .before .before .before .before .before .before .before .told .ensures) _ (c .before .before .hand-over .ensures)
+    _ (start .pre .2) _ (c .before .before .before .before .before .before .before .walk-answer .ensures) _ (c .before .before .hand-over .ensures)
 
 pub walk-list-spec : {M : Type 1} → statement M
 walk-list-spec = tie.close (tie.spec
-    (λ c. search needs) (λ c κs. search needs) told-requires (λ c. search needs) (λ c. search needs) hand-over-requires (λ c. search needs)
+    (λ c. search needs) (λ c κs. search needs) walk-answer-requires (λ c. search needs) (λ c. search needs) hand-over-requires (λ c. search needs)
     returns)

@@ -1,3 +1,0 @@
-pub mod ReadLaws
-pub mod ReadyLaws
-pub mod Calls

@@ -1,0 +1,113 @@
+-- What stands on the grid of a list.
+-- Assumes nothing.
+use Prim.Native.Nat.{ℕ, suc, _+_, _*_, _-_, _/_, _%_, _≤_}
+use mathlib.Core.Bool.{Bool, cond, _&&_}
+use mathlib.Core.List.{List}
+use lib.Dec.{leb, ltb, eqb}
+use Rattle.laws.specs.Sum.{gate}
+use Rattle.laws.specs.Tests.{all, imp}
+use Rattle.laws.specs.Lists.{nth, seek, filled}
+use Rattle.tasks.specs.declared.Task.{Task}
+use Rattle.tasks.specs.declared.TaskList.{TaskList}
+use Rattle.tasks.specs.Task.{taskAt}
+use Rattle.tasks.specs.Window.{isOpen, jobAt, lastSlot, Cyclic}
+use Rattle.grid.specs.GridFor.{counterOf, closedCounter, isQuick}
+
+-- a task whose windows fit a table of L slots
+pub record Fit (L : ℕ) (τ : Task) : Type 0 where
+  pub few-slots : L ≤ 1024
+  pub offset-le : τ .offset .0 ≤ 1023
+  pub cyclic : Cyclic L (τ .deadline .0) (τ .period .0) (L / τ .period .0)
+
+-- the entry of a task, of number i, in slot t
+unfoldable pub entryFor : ℕ → Task → ℕ → ℕ → ℕ
+entryFor L τ i t =
+    cond (isOpen L (τ .offset .0) (τ .deadline .0) (τ .period .0) t)
+    (2 * counterOf i (jobAt L (τ .offset .0) (τ .period .0) t)
+    + gate (eqb (lastSlot L (τ .offset .0) (τ .deadline .0) (τ .period .0) (jobAt L (τ .offset .0) (τ .period .0) t)) t) 1)
+    (2 * closedCounter)
+
+-- the entries, sixteen places a slot
+unfoldable pub entryAt : TaskList → ℕ → ℕ → ℕ
+entryAt list L x = cond (ltb (x % 16) (list .n)) (entryFor L (taskAt list (x % 16)) (suc (x % 16)) (x / 16)) 0
+
+-- two rates are equal, if both are positive
+unfoldable pub evenPair : ℕ → ℕ → Bool
+evenPair x y = imp (ltb 0 x) (imp (ltb 0 y) (eqb x y))
+
+-- the rates of task v on cores x / 4 and x % 4
+unfoldable pub pairEven : List ℕ → ℕ → ℕ → Bool
+pairEven rates v x = evenPair (nth rates (v * 4 + x / 4)) (nth rates (v * 4 + x % 4))
+
+-- all positive rates of task v are equal
+unfoldable pub rowEven : List ℕ → ℕ → Bool
+rowEven rates v = all 16 (pairEven rates v)
+
+-- two cores have equal rates for every task
+unfoldable pub coresTwin : ℕ → List ℕ → ℕ → ℕ → Bool
+coresTwin n rates a b = all n (λ v. eqb (nth rates (v * 4 + a)) (nth rates (v * 4 + b)))
+
+-- the mark of a test that the quick engine alone makes
+unfoldable pub quickMark : ℕ → Bool → ℕ
+quickMark e b = gate (isQuick e && b) 1
+
+-- 1 if a rate is positive and within so much work
+unfoldable pub fitBit : ℕ → ℕ → ℕ
+fitBit rate w = gate (ltb 0 rate && leb rate w) 1
+
+-- the cores, as bits, on which the rate of task x / 16 is positive and within work x % 16
+unfoldable pub fitMark : List ℕ → ℕ → ℕ
+fitMark rates x =
+    let bit : ℕ → ℕ = λ j. fitBit (nth rates (x / 16 * 4 + j)) (x % 16) in
+    bit 0 + 2 * bit 1 + 4 * bit 2 + 8 * bit 3
+
+-- where the parts between the entries and the marks of ends begin, counted from the first of them, the rates
+abbrev pub evens : ℕ
+evens = 64
+
+abbrev pub twins : ℕ
+twins = 80
+
+abbrev pub tasks : ℕ
+tasks = 96
+
+abbrev pub cores : ℕ
+cores = 97
+
+abbrev pub slots : ℕ
+slots = 98
+
+abbrev pub fits : ℕ
+fits = 99
+
+-- and how many places they have
+abbrev pub marks : ℕ
+marks = 355
+
+-- the test for the mark at place x: rule A's of a task, and then rule B's of two cores
+unfoldable pub ruleTest : ℕ → List ℕ → ℕ → Bool
+ruleTest n rates x = cond (ltb x twins) (rowEven rates (x - evens)) (coresTwin n rates ((x - twins) % 4) ((x - twins) / 4))
+
+-- the number at place x: the tasks, the cores, the slots
+unfoldable pub sizeAt : ℕ → ℕ → ℕ → ℕ → ℕ
+sizeAt n m L x = cond (eqb x tasks) n (cond (eqb x cores) m L)
+
+-- what stands at place x: the rates, the marks of rules A and B, the three numbers, the cores on which rates fit
+unfoldable pub markAt : ℕ → List ℕ → ℕ → ℕ → ℕ → ℕ → ℕ
+markAt n rates m e L x =
+    cond (ltb x evens) (nth rates x)
+    (cond (ltb x tasks) (quickMark e (ruleTest n rates x))
+    (cond (ltb x fits) (sizeAt n m L x)
+    (fitMark rates (x - fits))))
+
+-- the first task whose job has its highest-numbered slot in this slot of the entries, n if there is none
+unfoldable pub endMark : List ℕ → ℕ → ℕ → ℕ
+endMark entries n t = seek n (λ v. nth entries (t * 16 + v) % 2)
+
+-- the grid for a list on m cores in L slots, by engine e, but for the marks of ends
+unfoldable pub unmarkedOf : TaskList → ℕ → ℕ → ℕ → List ℕ → List ℕ
+unmarkedOf list m e L s = filled (filled s 0 (L * 16) (entryAt list L)) 16384 marks (markAt (list .n) (list .rates) m e L)
+
+-- the whole grid
+unfoldable pub gridOf : TaskList → ℕ → ℕ → ℕ → List ℕ → List ℕ
+gridOf list m e L s = filled (unmarkedOf list m e L s) 16739 L (endMark (unmarkedOf list m e L s) (list .n))

@@ -1,0 +1,150 @@
+// The grid, which is filled once for a search, and what the walk reads there.
+//
+// For slot t and task v at place t * 16 + v it has twice the number of the counter of the task's job there, one more in the
+// job's highest-numbered slot; then the rates, four a task; for rule A a 1 for each task whose positive rates are equal,
+// for rule B, four a core, a 1 for each earlier twin, both 0 for the plain engine; the task count, the cores, the slots;
+// for each task, by the work left up to 15, the cores on which its rate is positive and within it, as bits; and for each
+// slot the first task whose job has its highest-numbered slot there, the task count if there is none.
+// Beside it stands `left`, the work left of each job at its counter, and 0 at the counter of closed slots.
+ghost use mathlib.Core.Path.{_≡_};
+ghost use Prim.Native.Nat.{_+_, _≤_, _<_, min};
+ghost use Rattle.grid.specs.Grid.{counterOn, rateOn, fitOn, setsOn, twinRankOn, floorOn, settledOn, allSettledOn, tasksOn};
+use tasks::Work;
+
+// Where the grid's parts begin.
+pub const RATES_AT: usize = 16384;
+
+pub const EVEN_AT: usize = 16448;
+
+pub const TWINS_AT: usize = 16464;
+
+pub const TASKS_AT: usize = 16480;
+
+pub const CORES_AT: usize = 16481;
+
+pub const SLOTS_AT: usize = 16482;
+
+pub const FITS_AT: usize = 16483;
+
+pub const ENDS_AT: usize = 16739;
+
+// A number of the grid, and that it is one.
+pub fn wide(x: u16) -> usize
+    ensures { λ r. ⌜ (r ≡ x) × (r ≤ 65535) ⌝ }
+{
+    x as usize
+}
+
+// A value of a cell, and that it is one.
+fn byte(x: u8) -> usize
+    ensures { λ r. ⌜ (r ≡ x) × (r ≤ 255) ⌝ }
+{
+    x as usize
+}
+
+// The counter of the work left of a task's job in a slot.
+pub fn counter(grid: &[u16; 17763], slot: usize, task: usize) -> usize
+    requires { ⌜ (slot < 1024) × (task < 16) ⌝ }
+    ensures { λ r. ⌜ (r ≡ counterOn (now (grid .entry)) slot task) × (r < 32768) ⌝ }
+{
+    wide(grid[slot * 16 + task]) / 2
+}
+
+// The rate of a task on a core.
+pub fn rate(grid: &[u16; 17763], task: usize, core: usize) -> u16
+    requires { ⌜ (task < 16) × (core < 4) ⌝ }
+    ensures { λ r. ⌜ r ≡ rateOn (now (grid .entry)) task core ⌝ }
+{
+    grid[RATES_AT + (task * 4 + core)]
+}
+
+// So much work, up to 15: no rate is more.
+fn up_to_15(work: Work) -> usize
+    ensures { λ r. ⌜ (r ≡ min (work .0) 15) × (r ≤ 15) ⌝ }
+{
+    if work.0 < 15 { work.0 as usize } else { 15 }
+}
+
+// The cores, as bits, on which a task has a positive rate within so much work.
+fn fit(grid: &[u16; 17763], task: usize, work: Work) -> u64
+    requires { ⌜ task < 16 ⌝ }
+    ensures { λ r. ⌜ (r ≡ fitOn (now (grid .entry)) task (work .0)) × (r < 16) ⌝ }
+{
+    (grid[FITS_AT + (task * 16 + up_to_15(work))] % 16) as u64
+}
+
+// The sets of the tasks that may stand in a slot, where nothing stands yet.
+pub fn enter(grid: &[u16; 17763], left: &[u16; 32768], slot: usize) -> u64
+    requires { ⌜ (slot < 1024) × (tasksOn (now grid) ≤ 16) ⌝ }
+    ensures { λ r. ⌜ r ≡ setsOn (now (grid .entry)) (now (left .entry)) slot ⌝ }
+{
+    let mut task = wide(grid[TASKS_AT]);
+    let mut sets: u64 = 0;
+    while 0 < task {
+        task -= 1;
+        let work = Work(left[counter(grid, slot, task)]);
+        sets = sets::pushed(sets, fit(grid, task, work));
+    }
+    sets
+}
+
+// The rank of the value on core j of a slot, if that is an earlier twin of a core; else 0. Idle ranks last.
+fn twin_rank(grid: &[u16; 17763], table: &[u8; 4096], first: usize, core: usize, j: usize) -> usize
+    requires { ⌜ (core < 4) × (j < core) × (first + core ≤ 4096) ⌝ }
+    ensures { λ r. ⌜ (r ≡ twinRankOn (now (grid .entry)) (now (table .entry)) first core j) × (r ≤ 65536) ⌝ }
+{
+    if grid[TWINS_AT + (core * 4 + j)] == 0 {
+        return 0;
+    }
+    let value = table[first + j];
+    if value == 0 {
+        return wide(grid[TASKS_AT]) + 1;
+    }
+    byte(value)
+}
+
+// The rank below which rule B bars a value: the highest on an earlier twin.
+pub fn floor(grid: &[u16; 17763], table: &[u8; 4096], first: usize, core: usize) -> usize
+    requires { ⌜ (core < 4) × (first + core ≤ 4096) ⌝ }
+    ensures { λ r. ⌜ r ≡ floorOn (now (grid .entry)) (now (table .entry)) first core ⌝ }
+{
+    let mut most: usize = 0;
+    let mut j: usize = 0;
+    while j < core {
+        let rank = twin_rank(grid, table, first, core, j);
+        if most < rank {
+            most = rank;
+        }
+        j += 1;
+    }
+    most
+}
+
+// Whether a task's job has no work left, if this is its highest-numbered slot.
+fn settled(grid: &[u16; 17763], left: &[u16; 32768], slot: usize, task: usize) -> bool
+    requires { ⌜ (slot < 1024) × (task < 16) ⌝ }
+    ensures { λ r. ⌜ r ≡ settledOn (now (grid .entry)) (now (left .entry)) slot task ⌝ }
+{
+    let entry = grid[slot * 16 + task];
+    if entry % 2 == 0 {
+        return true;
+    }
+    let work = Work(left[counter(grid, slot, task)]);
+    work.0 == 0
+}
+
+// Whether each job whose highest-numbered slot this is has no work left.
+pub fn all_settled(grid: &[u16; 17763], left: &[u16; 32768], slot: usize) -> bool
+    requires { ⌜ (slot < 1024) × (tasksOn (now grid) ≤ 16) ⌝ }
+    ensures { λ r. ⌜ r ≡ allSettledOn (now (grid .entry)) (now (left .entry)) slot ⌝ }
+{
+    let n = wide(grid[TASKS_AT]);
+    let mut task = wide(grid[ENDS_AT + slot]);
+    while task < n {
+        if !settled(grid, left, slot, task) {
+            return false;
+        }
+        task += 1;
+    }
+    true
+}
