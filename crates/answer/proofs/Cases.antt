@@ -1,4 +1,4 @@
--- 01's worked example and a refusal, as they are written.
+-- The worked example of RULES 9 and a refusal, as they are written.
 -- Assumes nothing.
 use Prim.Native.Nat.{ℕ}
 use mathlib.Core.Path.{_≡_, refl}

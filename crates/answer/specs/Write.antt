@@ -11,25 +11,25 @@ use Rattle.laws.specs.Tests.{every}
 use Rattle.laws.specs.Lists.{nth, over}
 use Rattle.lines.specs.Lines.{lineOf}
 
--- 05 verdict, tries of four bytes
+-- 8.2: 05 verdict, tries of four bytes
 unfoldable pub verdictFrame : ℕ → ℕ → List ℕ
 verdictFrame verdict tries = 5 ∷ verdict ∷ tries / 16777216 ∷ tries / 65536 % 256 ∷ tries / 256 % 256 ∷ tries % 256 ∷ []
 
--- a cell of slot t, 0 beyond the cores
+-- 8.12: a cell of slot t, 0 beyond the cores
 unfoldable pub cellAt : ℕ → List ℕ → ℕ → ℕ → ℕ
 cellAt m table t j = gate (ltb j m) (nth table (t * m + j))
 
--- 06 slot, four cells
+-- 8.2: 06 slot, four cells
 unfoldable pub slotFrame : ℕ → List ℕ → ℕ → List ℕ
 slotFrame m table t =
     6 ∷ t / 256 ∷ t % 256 ∷ cellAt m table t 0 ∷ cellAt m table t 1 ∷ cellAt m table t 2 ∷ cellAt m table t 3 ∷ []
 
--- the 06 lines of slots 0 to H - 1
+-- 8.12: the 06 lines of slots 0 to H - 1
 unfoldable pub slotLines : ℕ → ℕ → List ℕ → List ℕ
 slotLines zero m table = []
 slotLines (suc H) m table = slotLines H m table ++ lineOf (slotFrame m table H)
 
--- 05, the 06 lines for verdict 0, and 07
+-- 8.12: 05, the 06 lines for verdict 0, and 07
 unfoldable pub writeAnswer : ℕ → ℕ → ℕ → ℕ → List ℕ → List ℕ
 writeAnswer verdict tries H m table =
     lineOf (verdictFrame verdict tries) ++ slotLines (gate (eqb verdict 0) H) m table ++ lineOf (7 ∷ [])

@@ -37,7 +37,7 @@ told-of (checked noFault) = refl
 told-of (checked (inCell s j kind)) = refl
 told-of (checked (inJob i k kind)) = refl
 
--- 01's numbers tell the answers apart
+-- the rules' numbers tell the answers apart
 pub told-only : {x : Checked} (r r′ : Verdict) → checkedAs r ≡ x → checkedAs r′ ≡ x → r ≡ r′
 told-only r r′ = only-told checkedAs verdictFrom answer-of
 

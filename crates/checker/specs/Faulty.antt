@@ -7,14 +7,14 @@ use lib.Dec.{T}
 use Rattle.tasks.specs.Instance.{Instance}
 use Rattle.table.specs.Table.{cells, slotOf, coreOf, done}
 
--- cell c has no fault: it is 0 or a task number; its task is open there, has a positive rate, and does not stand in this slot already
+-- 6.3: cell c has no fault: it is 0 or a task number; its task is open there, has a positive rate, and does not stand in this slot already
 pub record Fine (P : Instance) (f : ℕ → ℕ) (c : ℕ) : Type 0 where
   pub known : f c ≤ P .tasks
   pub open-there : f c ≢ 0 → T (P .opens (f c) (slotOf P c))
   pub rated : f c ≢ 0 → 0 < P .rate (f c) (coreOf P c)
   pub once : f c ≢ 0 → (d : ℕ) → d < c → slotOf P d ≡ slotOf P c → f d ≢ f c
 
--- cell c has the fault of this kind, and none of a lower kind
+-- 6.3: cell c has the fault of this kind, and none of a lower kind
 pub data Wrong (P : Instance) (f : ℕ → ℕ) (c : ℕ) : ℕ → Type 0 where
   -- 1 unknown task number
   unknown : P .tasks < f c → Wrong P f c 1
@@ -26,18 +26,18 @@ pub data Wrong (P : Instance) (f : ℕ → ℕ) (c : ℕ) : ℕ → Type 0 where
   twice : f c ≢ 0 → f c ≤ P .tasks → T (P .opens (f c) (slotOf P c)) → 0 < P .rate (f c) (coreOf P c)
       → (d : ℕ) → d < c → slotOf P d ≡ slotOf P c → f d ≡ f c → Wrong P f c 4
 
--- job k of task i has no fault: the rates of its cells add up to exactly C
+-- 6.4: job k of task i has no fault: the rates of its cells add up to exactly C
 abbrev pub Exact : Instance → (ℕ → ℕ) → ℕ → ℕ → Type 0
 Exact P f i k = done P (cells P) f i k ≡ P .work i
 
--- it has the fault of this kind
+-- 6.4: it has the fault of this kind
 pub data WrongWork (P : Instance) (f : ℕ → ℕ) (i k : ℕ) : ℕ → Type 0 where
   -- 5 too little work
   too-little : done P (cells P) f i k < P .work i → WrongWork P f i k 5
   -- 6 too much
   too-much : P .work i < done P (cells P) f i k → WrongWork P f i k 6
 
--- the cell of slot s and core j, from 1, is the first faulty one, by this kind
+-- 6.2: the cell of slot s and core j, from 1, is the first faulty one, by this kind
 pub record FirstCell (P : Instance) (f : ℕ → ℕ) (s j kind : ℕ) : Type 0 where
   pub cell : ℕ
   pub inside : cell < cells P
@@ -46,7 +46,7 @@ pub record FirstCell (P : Instance) (f : ℕ → ℕ) (s j kind : ℕ) : Type 0 
   pub is-wrong : Wrong P f cell kind
   pub fine-before : (d : ℕ) → d < cell → Fine P f d
 
--- no cell is faulty, and job k of task i is the first faulty one, by this kind
+-- 6.2: no cell is faulty, and job k of task i is the first faulty one, by this kind
 pub record FirstJob (P : Instance) (f : ℕ → ℕ) (i k kind : ℕ) : Type 0 where
   pub cells-fine : (c : ℕ) → c < cells P → Fine P f c
   pub some-task : i ≢ 0

@@ -35,15 +35,15 @@ next-of-says κs last h position age m n tick last′ h′ position′ age′ m�
 pub next-of-only : (last : ℕ) (h position age : Slots) (m n tick : ℕ) (r r′ : Next) → NextOf last h position age m n tick r → NextOf last h position age m n tick r′ → r ≡ r′
 next-of-only last h position age m n tick r r′ = only
 
--- ---- answer
-abbrev pub Answer : Next → ℕ → ℕ → List ℕ → ℕ → ℕ → ℕ → ℕ → Shown → Type 0
-Answer next m n offsets a b c d r = r ≡ shownOf next m n offsets (a ∷ b ∷ c ∷ d ∷ [])
+-- ---- show
+abbrev pub Show : Next → ℕ → ℕ → List ℕ → ℕ → ℕ → ℕ → ℕ → Shown → Type 0
+Show next m n offsets a b c d r = r ≡ shownOf next m n offsets (a ∷ b ∷ c ∷ d ∷ [])
 
 show-says : (κs next m n offsets a b c d next′ m′ n′ offsets′ a′ b′ c′ d′ r : _)
     → Says (λ M 𝓤 H A mem run. show.ensures-1 𝓤 H κs A mem run next m n offsets a b c d next′ m′ n′ offsets′ a′ b′ c′ d′ r)
-    (Answer next m n offsets a b c d r)
+    (Show next m n offsets a b c d r)
 show-says κs next m n offsets a b c d next′ m′ n′ offsets′ a′ b′ c′ d′ r M 𝓤 H A mem run = refl
 
 pub show-only : (next : Next) (m n : ℕ) (offsets : List ℕ) (a b c d : ℕ) (r r′ : Shown)
-    → Answer next m n offsets a b c d r → Answer next m n offsets a b c d r′ → r ≡ r′
+    → Show next m n offsets a b c d r → Show next m n offsets a b c d r′ → r ≡ r′
 show-only next m n offsets a b c d r r′ = only

@@ -52,7 +52,7 @@ module _ {h position age m n : ℕ} (u : Unspoilt h position age m n) (last s : 
           (record { last = a'; missed = e - 1; at = b' * m; position = record { 0 = b' }; age = record { 0 = min (age + (s + e)) 1024 }; verdict = 0 })
       same x y = cc
 
--- 01's example: H = 12, and slot 3 at tick 4294967295; at the next tick, 0, it is slot 4 and not 0
+-- the drawing of RULES 7: H = 12, and slot 3 at tick 4294967295; at the next tick, 0, it is slot 4 and not 0
 after-wrap : nextOf 4294967295 12 3 3 1 1 0 .position .0 ≡ 4
 unfolding nextOf stepRefusal within unless
 after-wrap = refl

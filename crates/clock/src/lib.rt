@@ -29,7 +29,7 @@ pub struct Next {
     pub verdict: u8,
 }
 
-// The verdicts of a step, by 01's numbers.
+// The refusals of a step (RULES 5.6).
 pub const SPOILT: u8 = 12;
 
 pub const PAST: u8 = 15;

@@ -1,4 +1,4 @@
--- 01's small tables worked by hand, P1 to P12, and its worked example, from text to text too: what the definitions answer, and what 01 says.
+-- The small tables of RULES 9 worked by hand, P1 to P12, and its worked example, from text to text too: what the definitions answer, and what the rules say.
 -- Assumes nothing.
 use Prim.Native.Nat.{ℕ, zero, suc, _%_, _^_}
 use mathlib.Core.Path.{_≡_, refl}
@@ -104,7 +104,7 @@ P5 = task 0 4 2 2 (1 ∷ 2 ∷ 0 ∷ 0 ∷ []) ∷ task 1 1 1 2 one ∷ []
 P6 : List Task
 P6 = task 0 3 2 2 (2 ∷ 0 ∷ 0 ∷ 0 ∷ []) ∷ []
 
--- figure 2 of source document 004
+-- the worked example
 figure : List Task
 figure = task 0 1 3 3 two ∷ task 0 2 3 3 two ∷ task 0 3 3 3 two ∷ []
 
@@ -133,7 +133,7 @@ questions =
     ∷ searching 1 idle 0 1000 1 ∷ searching 1 idle 1 1000 1
     ∷ []
 
--- what 01 says, and P5's tries
+-- what the rules say, and P5's tries
 replies : List Reply
 replies =
     searched 0 1 (1 ∷ []) ∷ searched 14 0 (0 ∷ [])

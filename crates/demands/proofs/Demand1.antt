@@ -1,4 +1,4 @@
--- Demand 1 over the calls' own contracts: each refusal comes exactly when 01's order gives it, and leaves the caller's memory as it was. The statements come first, then their proofs.
+-- Demand 1 over the calls' own contracts: each refusal comes exactly when the order of RULES 5.7 gives it, and leaves the caller's memory as it was. The statements come first, then their proofs.
 -- Assumes nothing.
 use Prim.Native.Nat.{ℕ, zero, suc, _^_, _≤_, _<_}
 use native.Mathlib.Decide.{ℕ-discrete}

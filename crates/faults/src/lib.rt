@@ -8,7 +8,7 @@ ghost use Rattle.faults.specs.Tests.{freeIn, counterAt, countedKind};
 use tasks::MAX_TASKS;
 use tasks::Work;
 
-// The kinds of fault, by 01's numbers.
+// The kinds of fault (RULES 6.3, 6.4).
 pub const UNKNOWN_TASK: u8 = 1;
 
 pub const TASK_CLOSED: u8 = 2;
@@ -41,7 +41,7 @@ pub fn counter_of(place: u8, job: u16) -> usize
     (job as usize) * (MAX_TASKS as usize) + (place as usize)
 }
 
-// The kind of fault of a task of the list in a cell, by 01's tests in their order; 0 if it passes them.
+// The kind of fault of a task of the list in a cell, by the tests of RULES 6.3 in their order; 0 if it passes them.
 pub fn kind(opens: bool, rated: bool, free: bool) -> u8
     ensures { λ r. ⌜ r ≡ knownKind opens rated free ⌝ }
 {

@@ -1,4 +1,4 @@
--- 01's worked example as it is read, and one short text for each file refusal.
+-- The worked example of RULES 9 as it is read, and one short text for each file refusal.
 -- Assumes nothing.
 use Prim.Native.Nat.{ℕ}
 use Prim.Native.String.{String}
@@ -29,7 +29,7 @@ equal work = record {
   rates = record { 0 = 1 ∷ 1 ∷ 0 ∷ 0 ∷ [] };
 }
 
--- the three tasks of document 004's figure 2 on two equal cores
+-- the three tasks of the worked example, on two equal cores
 unfoldable pub example : String
 example = "0102\n02010000000100030003\n030101010000\n02020000000200030003\n030201010000\n02030000000300030003\n030301010000\n0401000003E8\n07\n"
 

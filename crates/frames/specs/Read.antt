@@ -32,11 +32,11 @@ pub record Reading : Type 0 where
 abbrev pub said : Reading → Read
 said s = problem (s .m) (s .tasks) (s .engine) (s .limit)
 
--- before the first frame; 04 left out: engine 0, limit 1000000
+-- 8.4: before the first frame; 04 left out: engine 0, limit 1000000
 abbrev pub start : Reading
 start = record { last = []; m = 0; tasks = []; engine = 0; limit = 1000000 }
 
--- 01, then for each task its 02 and its 03, then 04 at most once, then 07 and nothing more; kind 0 stands for the start
+-- 8.3: 01, then for each task its 02 and its 03, then 04 at most once, then 07 and nothing more; kind 0 stands for the start
 unfoldable pub mayFollow : ℕ → ℕ → Bool
 mayFollow last kind =
     cond (eqb last 0) (eqb kind 1)
@@ -44,15 +44,15 @@ mayFollow last kind =
     (cond (eqb last 2) (eqb kind 3)
     (cond (eqb last 4) (eqb kind 7) false)))
 
--- tasks 1, 2, .. without gaps, none above 16; n have been read
+-- 8.3: tasks 1, 2, .. without gaps, none above 16; n have been read
 unfoldable pub rightNumber : ℕ → ℕ → ℕ → Bool
 rightNumber n kind number = imp (eqb kind 2 || eqb kind 3) (eqb number (suc n) && leb number 16)
 
--- a frame stands in its place behind the last one, where n tasks have been read
+-- 8.3: a frame stands in its place behind the last one, where n tasks have been read
 unfoldable pub inPlace : ℕ → ℕ → List ℕ → Bool
 inPlace last n f = mayFollow last (nth f 0) && rightNumber n (nth f 0) (nth f 1)
 
--- the task of an 02 (number, O, C, D, T) and an 03 (number, four rates)
+-- 8.2: the task of an 02 (number, O, C, D, T) and an 03 (number, four rates)
 unfoldable pub taskOf : List ℕ → List ℕ → Task
 taskOf f g = record {
   offset = record { 0 = two f 2 };
@@ -62,7 +62,7 @@ taskOf f g = record {
   rates = record { 0 = nth g 2 ∷ nth g 3 ∷ nth g 4 ∷ nth g 5 ∷ [] };
 }
 
--- what a frame in its place says: 01 the cores, 03 with the 02 before it a task, 04 engine and limit
+-- 8.2: what a frame in its place says: 01 the cores, 03 with the 02 before it a task, 04 engine and limit
 unfoldable pub takenFrame : Reading → List ℕ → Reading
 takenFrame s f = record {
   last = f;
@@ -72,7 +72,7 @@ takenFrame s f = record {
   limit = cond (eqb (nth f 0) 4) (four f 2) (s .limit);
 }
 
--- 24 out of place, or a task number above 16
+-- 8.10: 24 out of place, or a task number above 16
 unfoldable pub placeRefusal : Reading → List ℕ → ℕ
 placeRefusal s f = unless (inPlace (nth (s .last) 0) (length (s .tasks)) f) 24 0
 
@@ -81,17 +81,17 @@ abbrev pub orRead : ℕ → Read → Read
 orRead zero r = r
 orRead (suc k) r = refused (suc k)
 
--- line by line 21 to 24; 24 too where there is no end
+-- 8.6, 8.10: line by line 21 to 24; 24 too where there is no end
 unfoldable pub readLines : Reading → List Line → Read
 readLines s [] = orRead (unless (eqb (nth (s .last) 0) 7) 24 0) (said s)
 readLines s (l ∷ ls) =
     orRead (lineRefusal l) (orRead (placeRefusal s (bytesOf (l .text))) (readLines (takenFrame s (bytesOf (l .text))) ls))
 
--- 20 a text over its limit; then line by line
+-- 8.5: 20 a text over its limit; then line by line
 unfoldable pub readWithin : ℕ → List ℕ → Read
 readWithin most text = orRead (unless (leb (length text) most) 20 0) (readLines start (lines text))
 
--- a file of at most 1024 bytes
+-- 8.5: a file of at most 1024 bytes
 abbrev pub readProblem : List ℕ → Read
 readProblem = readWithin 1024
 

@@ -28,7 +28,7 @@ const MAX_TEXT: usize = 1024;
 // The limit where 04 is left out.
 const LIMIT_LEFT_OUT: u32 = 1000000;
 
-// The refusal of a text that is too long, by 01's number.
+// The refusal of a text that is too long (RULES 8.5).
 const TOO_LONG: u8 = 20;
 
 // A number of two bytes, high byte first.

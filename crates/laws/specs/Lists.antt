@@ -19,7 +19,7 @@ tabFrom a (suc n) g = g a ∷ tabFrom (suc a) n g
 abbrev pub tab : {A : Type 0} → ℕ → (ℕ → A) → List A
 tab = tabFrom 0
 
--- s written over the start of a list
+-- 5.9: s written over the start of a list
 unfoldable pub over : List ℕ → List ℕ → List ℕ
 over s t = s ++ drop (length s) t
 

@@ -10,12 +10,12 @@ abbrev pub In : ℕ → List ℕ → Type 0
 In v [] = ⊥
 In v (w ∷ ws) = (v ≡ w) ⊎ In v ws
 
--- the values v, v + 1, .., d of them, and then 0
+-- 4.1: the values v, v + 1, .., d of them, and then 0
 abbrev pub upTo : ℕ → ℕ → List ℕ
 upTo zero v = 0 ∷ []
 upTo (suc d) v = v ∷ upTo d (suc v)
 
--- the rank of a value among 1, 2, .., n, 0
+-- 4.1: the rank of a value among 1, 2, .., n, 0
 abbrev pub rankOf : ℕ → ℕ → ℕ
 rankOf n zero = suc n
 rankOf n (suc v) = suc v
@@ -25,7 +25,7 @@ pub data Rising (rank : ℕ → ℕ) : List ℕ → Type 0 where
   last : Rising rank []
   next : {v : ℕ} {vs : List ℕ} → ((w : ℕ) → In w vs → rank v < rank w) → Rising rank vs → Rising rank (v ∷ vs)
 
--- s comes before t: at the first place where they differ, s has the value of lower rank
+-- 4.2: s comes before t: at the first place where they differ, s has the value of lower rank
 abbrev pub Before : (ℕ → ℕ) → List ℕ → List ℕ → Type 0
 Before rank [] t = ⊥
 Before rank (v ∷ s) [] = ⊥

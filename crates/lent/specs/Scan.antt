@@ -16,7 +16,7 @@ use Rattle.lent.specs.declared.Lent.{Lent}
 abbrev pub countRefusal : ℕ → ℕ → ℕ → ℕ
 countRefusal n m next = unless (within 1 16 n) 1 (unless (within 1 4 m) 2 next)
 
--- and 3 to 7 task by task; 0 where there is none
+-- 5.7: and 3 to 7 task by task; 0 where there is none
 unfoldable pub scanRefusal : ℕ → List Task → ℕ
 scanRefusal m ts = countRefusal (length ts) m (listRefusal m ts)
 

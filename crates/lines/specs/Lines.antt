@@ -11,21 +11,21 @@ use lib.Seq.{slice}
 use Rattle.laws.specs.Lists.{nth}
 use Rattle.tasks.specs.Refusal.{within}
 
--- 0-9 and A-F
+-- 8.1: 0-9 and A-F
 unfoldable pub isDigit : ℕ → Bool
 isDigit c = within 48 57 c || within 65 70 c
 
--- what a digit stands for, and 0 for any other byte
+-- 8.1: what a digit stands for, and 0 for any other byte
 unfoldable pub digitOf : ℕ → ℕ
 digitOf c = cond (within 48 57 c) (c - 48) (cond (within 65 70 c) (c - 55) 0)
 
--- pairs of 0-9A-F
+-- 8.1: pairs of 0-9A-F
 unfoldable pub pairs : List ℕ → Bool
 pairs [] = true
 pairs (a ∷ []) = false
 pairs (a ∷ b ∷ s) = isDigit a && (isDigit b && pairs s)
 
--- the bytes that pairs of digits stand for
+-- 8.1: the bytes that pairs of digits stand for
 unfoldable pub bytesOf : List ℕ → List ℕ
 bytesOf [] = []
 bytesOf (a ∷ []) = []
@@ -41,7 +41,7 @@ unfoldable pub before : ℕ → List Line → List Line
 before b [] = record { text = b ∷ []; ended = false } ∷ []
 before b (l ∷ ls) = record { text = b ∷ l .text; ended = l .ended } ∷ ls
 
--- a text cut at line feeds
+-- 8.1: a text cut at line feeds
 unfoldable pub lines : List ℕ → List Line
 lines [] = []
 lines (b ∷ s) = cond (eqb b 10) (record { text = []; ended = true } ∷ lines s) (before b (lines s))
@@ -58,15 +58,15 @@ pub record LineEnd (text : List ℕ) (from to : ℕ) : Type 0 where
   pub feed : to < length text → nth text to ≡ 10
 
 -- ---- as they are written
--- 0-9 and A-F
+-- 8.1: 0-9 and A-F
 unfoldable pub hexOf : ℕ → ℕ
 hexOf x = cond (ltb x 10) (48 + x) (55 + x)
 
--- the digits of a frame's bytes
+-- 8.1: the digits of a frame's bytes
 unfoldable pub digits : List ℕ → List ℕ
 digits [] = []
 digits (b ∷ f) = hexOf (b / 16) ∷ hexOf (b % 16) ∷ digits f
 
--- a frame's line, ended by a line feed
+-- 8.1: a frame's line, ended by a line feed
 unfoldable pub lineOf : List ℕ → List ℕ
 lineOf f = digits f ++ (10 ∷ [])

@@ -25,16 +25,16 @@ inProblem Known = true
 inProblem Misplaced = false
 inProblem Unknown = false
 
--- 23 wrong length
+-- 8.9: 23 wrong length
 unfoldable pub lengthRefusal : ℕ → ℕ → ℕ → ℕ
 lengthRefusal kind count after = unless (eqb count (lengthOfKind kind)) 23 after
 
--- 22 unknown kind; 23; 24 out of place, as a kind of an answer always is
+-- 8.8, 8.10: 22 unknown kind; 23; 24 out of place, as a kind of an answer always is
 unfoldable pub frameRefusal : ℕ → ℕ → ℕ
 frameRefusal kind count =
     unless (isKind (sortOf kind)) 22 (lengthRefusal kind count (unless (inProblem (sortOf kind)) 24 0))
 
--- 21 no line feed, not pairs of 0-9A-F, or empty; then its frame
+-- 8.6, 8.7: 21 no line feed, not pairs of 0-9A-F, or empty; then its frame
 unfoldable pub lineRefusal : Line → ℕ
 lineRefusal l =
     unless (every (l .ended ∷ pairs (l .text) ∷ not (eqb (length (l .text)) 0) ∷ [])) 21

@@ -27,7 +27,7 @@ pub const END: u8 = 7;
 // Each kind of frame has its fixed length in bytes.
 const LENGTHS: [u8; 8] = [0, 2, 10, 6, 6, 6, 7, 1];
 
-// The refusals of a line, by 01's numbers.
+// The refusals of a line (RULES 8.7 to 8.10).
 const NOT_LINE: u8 = 21;
 
 const UNKNOWN_KIND: u8 = 22;

@@ -180,7 +180,7 @@ module _ (ts : List Task) (m : ℕ) (t : List ℕ) (p : Player) (tick : ℕ → 
     cell-at : (s j : ℕ) → s ≤ n → j < 4 → nth (shown s .cells) j ≡ shownAs m ts s j (nth t (s % tableLength ts * m + j))
     cell-at s j l h = ap (λ c. nth c j) (shows-at s l) ∙ tab-at 4 _ j 0 h
 
-    -- the table is played as 01 demands
+    -- the table is played as RULES 7.11 demands
     pub plays : Plays m ts t n shown
     plays = record {
       accepted = all-kept .accepted;

@@ -18,7 +18,7 @@ use Rattle.clock.specs.Clock.{nextOf, cellOf, answerOr}
 use Rattle.player.specs.declared.Player.{Player}
 
 -- ---- what is shown
--- four cells, one a core: those of the slot at the record's position
+-- 7.8: four cells, one a core: those of the slot at the record's position
 unfoldable pub cellsOf : Player → List ℕ
 cellsOf p = tab 4 (λ j. cellOf (p .m) (p .n) (p .age) (p .offsets) j (nth (p .table) (p .position * p .m + j)))
 
@@ -27,7 +27,7 @@ cellsOf p = tab 4 (λ j. cellOf (p .m) (p .n) (p .age) (p .offsets) j (nth (p .t
 abbrev pub workedOut : Player → ℕ → Next
 workedOut p tick = nextOf (p .last) (p .h) (p .position) (p .age) (p .m) (p .n) tick
 
--- the record with the last tick, position and age that a step works out
+-- 7.7: the record with the last tick, position and age that a step works out
 abbrev pub stored : Player → Next → Player
 stored p x = record {
   last = x .last;
@@ -40,35 +40,35 @@ stored p x = record {
   table = p .table;
 }
 
--- the record after a step
+-- 7.7: the record after a step
 unfoldable pub afterStep : Player → ℕ → Player
 afterStep p tick = stored p (workedOut p tick)
 
--- what a step answers: the cells of the slot that it comes to, and the slots missed
+-- 7.8: what a step answers: the cells of the slot that it comes to, and the slots missed
 unfoldable pub stepped : Player → ℕ → Shown
 stepped p tick = let x = workedOut p tick in answerOr (x .verdict) (record { verdict = 0; cells = cellsOf (afterStep p tick); missed = x .missed })
 
 -- ---- a start
--- 11 for a table that is not valid, by its first fault
+-- 5.6: 11 for a table that is not valid, by its first fault
 abbrev pub faultRefusal : Fault → ℕ
 faultRefusal noFault = 0
 faultRefusal (inCell t j k) = 11
 faultRefusal (inJob i k x) = 11
 
--- refusals 1 to 8, 10, 11 in that order; 0 for none
+-- 5.7, 7.1: refusals 1 to 8, 10, 11 in that order; 0 for none
 abbrev pub checkRefusal : Checked → ℕ
 checkRefusal (refused r) = r
 checkRefusal (checked x) = faultRefusal x
 
--- the refusal of a problem and a table
+-- 7.1: the refusal of a problem and a table
 abbrev pub startRefusal : ℕ → List Task → List ℕ → ℕ
 startRefusal m ts t = checkRefusal (check m ts t)
 
--- n numbers: the first k by a rule, the unused ones 0
+-- 7.2: n numbers: the first k by a rule, the unused ones 0
 unfoldable pub padded : ℕ → ℕ → (ℕ → ℕ) → List ℕ
 padded n k g = tab n (λ i. gate (ltb i k) (g i))
 
--- the record that a start makes: position 0, age 0; unused offsets and cells are 0
+-- 7.2: the record that a start makes: position 0, age 0; unused offsets and cells are 0
 unfoldable pub recordOf : ℕ → List Task → List ℕ → ℕ → Player
 recordOf m ts t tick = record {
   last = tick;
@@ -81,20 +81,20 @@ recordOf m ts t tick = record {
   table = padded 4096 (tableLength ts * m) (nth t);
 }
 
--- what a start answers of a record: as a step does, missed 0
+-- 7.3: what a start answers of a record: as a step does, missed 0
 abbrev pub firstShown : Player → ℕ → Shown
 firstShown p r = answerOr r (record { verdict = 0; cells = cellsOf p; missed = 0 })
 
--- what a start answers: for slot 0
+-- 7.3: what a start answers: for slot 0
 unfoldable pub started : ℕ → List Task → List ℕ → ℕ → Shown
 started m ts t tick = firstShown (recordOf m ts t tick) (startRefusal m ts t)
 
--- a refused start leaves the record as it was
+-- 5.8, 7.10: a refused start leaves the record as it was
 abbrev pub recordOr : ℕ → Player → Player → Player
 recordOr zero made p = made
 recordOr (suc r) made p = p
 
--- the record after a start
+-- 7.3: the record after a start
 unfoldable pub afterStart : ℕ → List Task → List ℕ → ℕ → Player → Player
 afterStart m ts t tick p = recordOr (startRefusal m ts t) (recordOf m ts t tick) p
 

@@ -30,7 +30,7 @@ pub struct Started {
     pub shown: Shown,
 }
 
-// The verdict of a start whose table is not valid, by 01's number.
+// The refusal of a start whose table is not valid (RULES 5.6).
 pub const INVALID: u8 = 11;
 
 // A step: the record is taken apart, and what changes is stored where it stands.

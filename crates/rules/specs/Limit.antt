@@ -6,7 +6,7 @@ use mathlib.Core.List.{List, [], _∷_, _++_}
 use lib.Dec.{leb}
 use Rattle.rules.specs.Walk.{Rule, found, none, Outcome, ended, stopped}
 
--- the walk under a limit goes on from j tries, if they are within the limit of b
+-- 4.12: the walk under a limit goes on from j tries, if they are within the limit of b
 abbrev pub allow : Bool → ℕ → ℕ → (ℕ → Outcome) → Outcome
 allow true b j f = f j
 allow false b j f = stopped b
@@ -27,7 +27,7 @@ abbrev pub btryAll : (ℕ → ℕ → Outcome) → List ℕ → ℕ → Outcome
 btryAll f [] u = ended (none u)
 btryAll f (v ∷ vs) u = bnext v (f v u) (btryAll f vs)
 
--- the walk under a limit of b tries, u of them used: it stops where one more try would pass the limit
+-- 4.12: the walk under a limit of b tries, u of them used: it stops where one more try would pass the limit
 unfoldable pub bwalk : ℕ → Rule → List ℕ → ℕ → List ℕ → ℕ → Outcome
 bwalk b R vs zero p u = bgate (R .goesOn p) (λ j. ended (found [] j)) u
 bwalk b R vs (suc l) p u =

@@ -29,7 +29,7 @@ pub record Passes (R : Rule) (vs : List ℕ) (l : ℕ) (p s : List ℕ) : Type 0
   pub known : (c : ℕ) → c < l → In (nth s c) vs
   pub tried : (c : ℕ) → c < l → T (R .tried (p ++ take c s) (nth s c))
 
--- s is the first of the lists that G allows: none of them comes before it
+-- 4.2: s is the first of the lists that G allows: none of them comes before it
 abbrev pub First : (ℕ → ℕ) → (List ℕ → Type 0) → List ℕ → Type 0
 First rank G s = G s × ((t : List ℕ) → G t → Before rank t s → ⊥)
 

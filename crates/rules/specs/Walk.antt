@@ -27,7 +27,7 @@ abbrev pub tries : Result → ℕ
 tries (found s k) = k
 tries (none k) = k
 
--- a result with c more tries
+-- 4.6: a result with c more tries
 abbrev pub spend : ℕ → Result → Result
 spend c (found s k) = found s (c + k)
 spend c (none k) = none (c + k)
@@ -37,17 +37,17 @@ abbrev pub gated : Bool → Result → Result
 gated true r = r
 gated false r = none 0
 
--- the result below the value v and, if that is none, the result of the values after v
+-- 4.8: the result below the value v and, if that is none, the result of the values after v
 abbrev pub orElse : ℕ → Result → Result → Result
 orElse v (found s k) q = found (v ∷ s) k
 orElse v (none k) q = spend k q
 
--- the values in their order, each with its result: the first that is found
+-- 4.3, 4.8: the values in their order, each with its result: the first that is found
 abbrev pub tryAll : (ℕ → Result) → List ℕ → Result
 tryAll f [] = none 0
 tryAll f (v ∷ vs) = orElse v (f v) (tryAll f vs)
 
--- the walk over the cells left, from the prefix p
+-- 4.3: the walk over the cells left, from the prefix p
 unfoldable pub walk : Rule → List ℕ → ℕ → List ℕ → Result
 walk R vs zero p = gated (R .goesOn p) (found [] 0)
 walk R vs (suc l) p = gated (R .goesOn p) (tryAll (λ v. gated (R .tried p v) (spend (R .cost p v) (walk R vs l (p ++ v ∷ [])))) vs)
@@ -57,11 +57,11 @@ pub data Outcome : Type 0 where
   ended : Result → Outcome
   stopped : ℕ → Outcome
 
--- a result that is within the limit of b tries, or not
+-- 4.12: a result that is within the limit of b tries, or not
 abbrev pub cap : Bool → ℕ → Result → Outcome
 cap true b r = ended r
 cap false b r = stopped b
 
--- what a limit of b tries makes of a result
+-- 4.12: what a limit of b tries makes of a result
 abbrev pub limited : ℕ → Result → Outcome
 limited b r = cap (leb (tries r) b) b r

@@ -49,7 +49,7 @@ pub struct Answer {
     pub tries: u32,
 }
 
-// How a walk ends, by 01's numbers.
+// How a walk ends (RULES 5.1 to 5.3).
 const FOUND: u8 = 0;
 
 const NONE: u8 = 13;

@@ -11,15 +11,15 @@ use Rattle.tasks.specs.Refusal.{unless, orNext, refusal}
 use Rattle.tasks.specs.Instance.{Instance, ownInstance}
 use Rattle.table.specs.Table.{cells, slotOf, coreOf, done, free}
 
--- the fault of a task of the list, by its tests in a cell: 2 task closed, 3 rate 0, 4 already in this slot; 0 none
+-- 6.3: the fault of a task of the list, by its tests in a cell: 2 task closed, 3 rate 0, 4 already in this slot; 0 none
 abbrev pub knownKind : Bool → Bool → Bool → ℕ
 knownKind opens rated free = unless opens 2 (unless rated 3 (unless free 4 0))
 
--- the fault of a task v in cell c: 1 unknown task number, else that of a task of the list
+-- 6.3: the fault of a task v in cell c: 1 unknown task number, else that of a task of the list
 unfoldable pub kindOf : Instance → ℕ → (ℕ → ℕ) → ℕ → ℕ
 kindOf P c f v = unless (leb v (P .tasks)) 1 (knownKind (P .opens v (slotOf P c)) (ltb 0 (P .rate v (coreOf P c))) (free P c f v))
 
--- the fault of cell c; an idle cell has none
+-- 6.3: the fault of cell c; an idle cell has none
 unfoldable pub cellKind : Instance → (ℕ → ℕ) → ℕ → ℕ
 cellKind P f c = idleOr (f c)
   where
@@ -27,15 +27,15 @@ cellKind P f c = idleOr (f c)
     idleOr zero = 0
     idleOr (suc v) = kindOf P c f (suc v)
 
--- the fault of a job of work C that has done d: 5 too little work, 6 too much; 0 none
+-- 6.4: the fault of a job of work C that has done d: 5 too little work, 6 too much; 0 none
 unfoldable pub workKind : ℕ → ℕ → ℕ
 workKind C d = unless (leb C d) 5 (unless (leb d C) 6 0)
 
--- the fault of job k of task i
+-- 6.4: the fault of job k of task i
 abbrev pub jobKind : Instance → (ℕ → ℕ) → ℕ → ℕ → ℕ
 jobKind P f i k = workKind (P .work i) (done P (cells P) f i k)
 
--- what the checker tells: slot, core and kind, or task, job and kind; slots and jobs count from 0, cores and tasks from 1
+-- 6.5: what the checker tells: slot, core and kind, or task, job and kind; slots and jobs count from 0, cores and tasks from 1
 pub data Fault : Type 0 where
   noFault : Fault
   inCell : ℕ → ℕ → ℕ → Fault
@@ -46,18 +46,18 @@ abbrev pub faultIf : Bool → Fault → Fault → Fault
 faultIf true x next = x
 faultIf false x next = next
 
--- the first faulty job of n tasks, by task and job number
+-- 6.2: the first faulty job of n tasks, by task and job number
 unfoldable pub firstJob : ℕ → (ℕ → ℕ) → (ℕ → ℕ → ℕ) → Fault
 firstJob n jobs kind =
     let i = seek n (λ j. firstOf (jobs (suc j)) (kind (suc j))) in
     let k = seek (jobs (suc i)) (kind (suc i)) in
     faultIf (ltb i n) (inJob (suc i) k (kind (suc i) k)) noFault
 
--- the first fault of the jobs
+-- 6.2: the first fault of the jobs
 abbrev pub jobFault : Instance → (ℕ → ℕ) → Fault
 jobFault P f = firstJob (P .tasks) (P .jobs) (jobKind P f)
 
--- the first fault of the table
+-- 6.2: the first fault of the table
 unfoldable pub fault : Instance → (ℕ → ℕ) → Fault
 fault P f =
     let c = seek (cells P) (cellKind P f) in
@@ -73,7 +73,7 @@ abbrev pub checkedIf : ℕ → Fault → Checked
 checkedIf zero x = checked x
 checkedIf (suc r) x = refused (suc r)
 
--- the checker: cells past H × m are not looked at
+-- 5.5, 6.1: the checker: cells past H × m are not looked at
 unfoldable pub check : ℕ → List Task → List ℕ → Checked
 check m ts t =
     let P = ownInstance m ts in

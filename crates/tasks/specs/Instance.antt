@@ -1,5 +1,5 @@
 -- What a table is planned for, with no word of periods and offsets; and the instance that a task list makes for a table of L slots.
--- Tasks and jobs are numbered as in 01, cores from 0.
+-- Tasks count from 1, slots, jobs and cores from 0.
 -- Assumes nothing.
 use Prim.Native.Nat.{ℕ, _/_, _≤_, _<_}
 use mathlib.Core.Logic.{_≢_}
@@ -23,15 +23,15 @@ pub record Instance : Type 0 where
   pub rate : ℕ → ℕ → ℕ
   pub work : ℕ → ℕ
 
--- slot t is one of the slots of job k of task i
+-- 2.5: slot t is one of the slots of job k of task i
 abbrev pub jobSlot : Instance → ℕ → ℕ → ℕ → Bool
 jobSlot P i k t = P .opens i t && eqb (P .job i t) k
 
--- the highest-numbered slot of job k of task i
+-- 2.6: the highest-numbered slot of job k of task i
 abbrev pub jobEnd : Instance → ℕ → ℕ → ℕ
 jobEnd P i k = highest (P .slots) (jobSlot P i k)
 
--- the instance of a task list on m cores in L slots
+-- 2.3: the instance of a task list on m cores in L slots
 unfoldable pub instanceOf : ℕ → ℕ → List Task → Instance
 instanceOf L m ts = record {
   slots = L;
@@ -44,7 +44,7 @@ instanceOf L m ts = record {
   work = λ i. task ts i .work .0;
 }
 
--- the instance of a task list on m cores in its own H slots
+-- 2.3: the instance of a task list on m cores in its own H slots
 abbrev pub ownInstance : ℕ → List Task → Instance
 ownInstance m ts = instanceOf (tableLength ts) m ts
 

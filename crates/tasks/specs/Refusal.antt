@@ -1,4 +1,4 @@
--- Refusals 1 to 8, in 01's order; 0 where there is none.
+-- Refusals 1 to 8, in the order of RULES 5.7; 0 where there is none.
 -- Assumes nothing.
 use Prim.Native.Nat.{ℕ, zero, suc, _≤_, _<_}
 use mathlib.Core.Path.{_≡_}
@@ -30,15 +30,15 @@ unless false k next = k
 unfoldable pub orNext : ℕ → ℕ → ℕ
 orNext x next = cond (eqb x 0) next x
 
--- the most that a rate may be on core j of m: 15, and 0 beyond the board's last core
+-- 1.3: the most that a rate may be on core j of m: 15, and 0 beyond the board's last core
 abbrev pub mostRate : ℕ → ℕ → ℕ
 mostRate m j = cond (ltb j m) 15 0
 
--- the four rates are in range
+-- 1.3: the four rates are in range
 unfoldable pub ratesFit : ℕ → Rates → Bool
 ratesFit m r = all 4 (λ j. leb (nth (r .0) j) (mostRate m j))
 
--- within a task 3 to 7: period T 1..1024, deadline D 1..T, work C 1..4096, offset O 0..1023, rates
+-- 1.2, 5.4, 5.7: within a task 3 to 7: period T 1..1024, deadline D 1..T, work C 1..4096, offset O 0..1023, rates
 unfoldable pub taskRefusal : ℕ → Task → ℕ
 taskRefusal m τ =
     unless (within 1 1024 (τ .period .0)) 3
@@ -47,7 +47,7 @@ taskRefusal m τ =
     (unless (within 0 1023 (τ .offset .0)) 6
     (unless (ratesFit m (τ .rates)) 7 0))))
 
--- task by task in number order
+-- 5.7: task by task in number order
 unfoldable pub listRefusal : ℕ → List Task → ℕ
 listRefusal m ts = firstOf (length ts) (λ k. taskRefusal m (task ts (suc k)))
 
@@ -55,11 +55,11 @@ listRefusal m ts = firstOf (length ts) (λ k. taskRefusal m (task ts (suc k)))
 abbrev pub periodAt : List Task → ℕ → ℕ
 periodAt ts k = task ts (suc k) .period .0
 
--- H, the least common multiple of all periods
+-- 1.6: H, the least common multiple of all periods
 unfoldable pub tableLength : List Task → ℕ
 tableLength ts = lcmsOf (length ts) (periodAt ts)
 
--- 1 no task or over 16; 2 cores not 1..4; 3 to 7 task by task; 8 H over 1024
+-- 5.4, 5.7: 1 no task or over 16; 2 cores not 1..4; 3 to 7 task by task; 8 H over 1024
 unfoldable pub refusal : ℕ → List Task → ℕ
 refusal m ts =
     unless (within 1 16 (length ts)) 1
@@ -67,7 +67,7 @@ refusal m ts =
     (orNext (listRefusal m ts)
     (unless (leb (tableLength ts) 1024) 8 0)))
 
--- a list is sound if none of 1 to 8 refuses it
+-- 5.10: a list is sound if none of 1 to 8 refuses it
 abbrev pub IsSound : ℕ → List Task → Type 0
 IsSound m ts = refusal m ts ≡ 0
 
@@ -85,7 +85,7 @@ pub data Tested : Type 0 where
   sound : ℕ → Tested
   refused : ℕ → Tested
 
--- the answer by 01's numbers
+-- the answer by the rules' numbers
 unfoldable pub testedAs : Soundness → Tested
 testedAs (Sound h) = sound (h .0)
 testedAs (Refused number) = refused number
@@ -95,7 +95,7 @@ abbrev pub testedIf : ℕ → ℕ → Tested
 testedIf zero h = sound h
 testedIf (suc k) h = refused (suc k)
 
--- the test of a list on m cores
+-- 5.10: the test of a list on m cores
 unfoldable pub tested : ℕ → List Task → Tested
 tested m ts = testedIf (refusal m ts) (tableLength ts)
 

@@ -9,11 +9,11 @@ use Rattle.tasks.specs.declared.Work.{Work}
 use Rattle.tasks.specs.declared.Task.{Task}
 use Rattle.tasks.specs.declared.TaskList.{TaskList}
 
--- a slot on a core of rate s does s units
+-- 1.5: a slot on a core of rate s does s units
 abbrev pub workIn : ℕ → Slots → Work
 workIn s slots = record { 0 = s * slots .0 }
 
--- the rate of a task on core j, from 0
+-- 1.3: the rate of a task on core j, from 0
 abbrev pub rate : Task → ℕ → ℕ
 rate τ j = nth (τ .rates .0) j
 
@@ -27,7 +27,7 @@ noTask = record {
   rates = record { 0 = [] };
 }
 
--- the task of number i, from 1
+-- 1.1: the task of number i, from 1
 abbrev pub task : List Task → ℕ → Task
 task ts i = getD ts (pred i) noTask
 

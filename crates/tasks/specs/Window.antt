@@ -6,23 +6,23 @@ use mathlib.Core.Bool.{Bool, cond, _&&_}
 use lib.Dec.{ltb, eqb}
 use Rattle.laws.specs.Sum.{gate, sum}
 
--- p = (t - O) mod L, taken between 0 and L - 1
+-- 2.2: p = (t - O) mod L, taken between 0 and L - 1
 unfoldable pub place : ℕ → ℕ → ℕ → ℕ
 place L O t = (t + (L - O % L)) % L
 
--- the job is number p div T, from 0
+-- 2.3: the job is number p div T, from 0
 abbrev pub jobAt : ℕ → ℕ → ℕ → ℕ → ℕ
 jobAt L O T t = place L O t / T
 
--- the task is open at t exactly if p mod T < D
+-- 2.4: the task is open at t exactly if p mod T < D
 abbrev pub IsOpen : ℕ → ℕ → ℕ → ℕ → ℕ → Type 0
 IsOpen L O D T t = place L O t % T < D
 
--- the same as a test
+-- 2.4: the same as a test
 abbrev pub isOpen : ℕ → ℕ → ℕ → ℕ → ℕ → Bool
 isOpen L O D T t = ltb (place L O t % T) D
 
--- slot t is one of job k's: open, and of that number
+-- 2.5: slot t is one of job k's: open, and of that number
 unfoldable pub isJobs : ℕ → ℕ → ℕ → ℕ → ℕ → ℕ → Bool
 isJobs L O D T k t = isOpen L O D T t && eqb (jobAt L O T t) k
 
@@ -31,11 +31,11 @@ unfoldable pub highest : ℕ → (ℕ → Bool) → ℕ
 highest zero g = 0
 highest (suc n) g = cond (g n) n (highest n g)
 
--- job k's highest-numbered slot
+-- 2.6: job k's highest-numbered slot
 abbrev pub lastSlot : ℕ → ℕ → ℕ → ℕ → ℕ → ℕ
 lastSlot L O D T k = highest L (isJobs L O D T k)
 
--- time s, from 0 on without end, lies in the K-th window
+-- 2.1: time s, from 0 on without end, lies in the K-th window
 abbrev pub InWindow : ℕ → ℕ → ℕ → ℕ → ℕ → Type 0
 InWindow O D T K s = (O + K * T ≤ s) × (s < O + K * T + D)
 

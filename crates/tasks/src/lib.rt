@@ -37,7 +37,7 @@ pub const MAX_WORK: u16 = 4096;
 
 pub const MAX_RATE: u8 = 15;
 
-// The refusals of a list, of an engine and of a table buffer, by 01's numbers.
+// The refusals of a list, of an engine and of a table buffer (RULES 5.4, 5.5).
 pub const BAD_COUNT: u8 = 1;
 
 pub const BAD_CORES: u8 = 2;
@@ -213,7 +213,7 @@ pub enum Soundness {
     Refused(u8),
 }
 
-// Refusals 1 to 8, in 01's order.
+// Refusals 1 to 8, in the order of RULES 5.7.
 pub fn test_list(list: TaskList, m: u8) -> Soundness
     ensures { λ r. ⌜ testedAs r ≡ tested m (rows list) ⌝ }
 {

@@ -13,12 +13,12 @@ pub record InSlot : Type 0 where
   pub opens : Bool
   pub job : ℕ
 
--- the answer by 01's numbers
+-- the answer by the rules' numbers
 unfoldable pub inSlotAs : Window → InSlot
 inSlotAs (Open job) = record { opens = true; job = job }
 inSlotAs Closed = record { opens = false; job = 0 }
 
--- a task in slot t of L
+-- 2.4: a task in slot t of L
 unfoldable pub inSlot : ℕ → Task → ℕ → InSlot
 inSlot L τ t =
     let here = isOpen L (τ .offset .0) (τ .deadline .0) (τ .period .0) t in

@@ -1,4 +1,4 @@
--- `checker::check_table` meets its contract: refusals in 01's order, then the first faulty cell, then the first faulty job.
+-- `checker::check_table` meets its contract: refusals in the order of RULES 5.7, then the first faulty cell, then the first faulty job.
 -- Assumes nothing.
 use native.Mathlib.Omega.{arith}
 use Rattle.checker.specs.Checks.{Checkable}

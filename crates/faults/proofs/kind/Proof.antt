@@ -1,4 +1,4 @@
--- `faults::kind` meets its contract: its tests are 01's, one by one.
+-- `faults::kind` meets its contract: its tests are those of RULES 6.3, one by one.
 -- Assumes nothing.
 use mathlib.Core.Path.{refl}
 use Rattle.tasks.proofs.AnswerLaws.{refuses, goes-on}

@@ -1,4 +1,4 @@
--- `tasks::test_list` meets its contract: its tests are the definition's, in 01's order.
+-- `tasks::test_list` meets its contract: its tests are the definition's, in the order of RULES 5.7.
 -- Assumes nothing.
 use Prim.Native.Nat.{ℕ}
 use mathlib.Core.Path.{_≡_}
