@@ -29,7 +29,7 @@ use Rattle.rules.specs.Rules.{evenRates, twin}
 use Rattle.sets.specs.Sets.{has}
 use Rattle.grid.specs.Grid.{coresOn, OnGrid}
 use Rattle.grid.specs.GridFor.{Small, entryOf, isQuick, GridFor}
-use Rattle.grid.proofs.GridForLaws.{test-same}
+use Rattle.grid.proofs.GridForLaws.{test-same, counter-le}
 use Rattle.fill.specs.Grid.{Fit, entryFor, entryAt, evenPair, pairEven, rowEven, coresTwin, quickMark, fitMark, evens, twins, tasks, cores, slots, fits, marks, markAt, endMark, unmarkedOf, gridOf}
 use Rattle.fill.proofs.FillLaws.{test-even, test-twin, size-tasks, size-cores, size-slots, at-rate, at-rule, at-size, at-fit}
 use Rattle.fill.proofs.FitLaws.{mark-has, up-to-15}
@@ -225,6 +225,7 @@ module _ (m : ℕ) (list : TaskList) (e L : ℕ) (sound : IsSound m (rows list))
           tasks = omega (arith, r .tasks, s .few-tasks);
           cores = omega (arith, r .cores, s .few-cores);
           slots = omega (arith, r .slots, s .few-slots);
+          counters = λ t v lt lv. counter-le (instance-small list s) r (omega (arith, r .slots)) (omega (arith, r .tasks));
           slot-in = omega (arith, r .slots, s .some-slot);
         },
         omega (arith, r .cores, s .some-core),

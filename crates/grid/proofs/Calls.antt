@@ -26,7 +26,7 @@ wide-only x r r′ e e′ = only (e .0) (e′ .0)
 
 -- ---- counter
 abbrev pub Counter : List ℕ → ℕ → ℕ → ℕ → Type 0
-Counter grid slot task r = (r ≡ counterOn grid slot task) × (r < 32768)
+Counter grid slot task r = (r ≡ counterOn grid slot task) × (r ≤ 16384)
 
 counter-says : (κs grid slot task grid′ slot′ task′ r : _)
     → Says (λ M 𝓤 H A mem run. counter.ensures-1 𝓤 H κs A mem run grid slot task grid′ slot′ task′ r) (Counter (now (grid′ .entry)) slot task r)

@@ -119,6 +119,14 @@ module _ {P : Instance} {e : ℕ} {grid : List ℕ} (small : Small P) (ready : G
     pub job-in : P .job (suc v) slot < P .jobs (suc v)
     job-in = small .regular .job-there (suc v) slot (omega arith) lv ls
 
+    -- its counter is before that of closed slots
+    counter-in : T (P .opens (suc v) slot) → counterOn grid slot v < closedCounter
+    counter-in o = omega (arith, counter-open o, job-in, small .few-jobs (suc v) (omega arith) lv, small .few-tasks)
+
+    -- and none is behind that
+    pub counter-le : counterOn grid slot v ≤ closedCounter
+    counter-le = test-cases (P .opens (suc v) slot) (λ o. omega (arith, counter-in o)) (λ x. omega (arith, counter-closed x .0))
+
     -- the work left of the job of an open slot
     pub left-open : (c : ℕ) (f : ℕ → ℕ) (l : List ℕ) → Lefts P c f l → T (P .opens (suc v) slot)
         → nth l (counterOn grid slot v) ≡ workLeft P c f (suc v) (P .job (suc v) slot)
@@ -212,20 +220,16 @@ module _ {P : Instance} {e : ℕ} {grid : List ℕ} (small : Small P) (ready : G
     }
 
     -- a task takes its rate off the work left of its job
-    module _ (t l : List ℕ) (room : first + core < length t) (wide : length l ≡ 32768) (lefts : Lefts P (first + core) (nth t) l) (v : ℕ) (lv : v < P .tasks) (o : T (P .opens (suc v) slot)) where
+    module _ (t l : List ℕ) (room : first + core < length t) (wide : length l ≡ 16385) (lefts : Lefts P (first + core) (nth t) l) (v : ℕ) (lv : v < P .tasks) (o : T (P .opens (suc v) slot)) where
       -- the counter of the task's job
       counter-is : counterOn grid slot v ≡ P .job (suc v) slot * 16 + v
       counter-is = counter-open ls lv o
-
-      -- it is among the counters, before that of closed slots
-      counter-in : counterOn grid slot v < 16384
-      counter-in = omega (arith, counter-is, job-in ls lv, small .few-jobs (suc v) (omega arith) lv, small .few-tasks)
 
       -- the counter of this job
       put-own : nth (set l (counterOn grid slot v) (nth l (counterOn grid slot v) - rateOn grid v core)) (counterOf (suc v) (P .job (suc v) slot))
           ≡ workLeft P (first + core + 1) (nth (set t (first + core) (v + 1))) (suc v) (P .job (suc v) slot)
       put-own = ap (nth (set l (counterOn grid slot v) (nth l (counterOn grid slot v) - rateOn grid v core))) (sym counter-is)
-          ∙ getD-set-same l (counterOn grid slot v) _ 0 (omega (arith, counter-in))
+          ∙ getD-set-same l (counterOn grid slot v) _ 0 (omega (arith, counter-in ls lv o))
           ∙ omega (
             arith,
             left-open ls lv (first + core) (nth t) l lefts o,
@@ -259,7 +263,7 @@ module _ {P : Instance} {e : ℕ} {grid : List ℕ} (small : Small P) (ready : G
           ]
           | no y ↦ put-other i k x li lk (λ q _. y q)
         ];
-        none-closed = getD-set-other l (counterOn grid slot v) closedCounter _ 0 (omega (arith, counter-in)) ∙ lefts .none-closed;
+        none-closed = getD-set-other l (counterOn grid slot v) closedCounter _ 0 (omega (arith, counter-in ls lv o)) ∙ lefts .none-closed;
       }
 
   -- ---- the sets after a value in the cell

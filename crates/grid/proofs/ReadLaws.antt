@@ -17,7 +17,11 @@ use Rattle.laws.specs.Tests.{imp}
 use Rattle.laws.proofs.TestLaws.{all-false, all-true}
 use Rattle.sets.specs.Sets.{has, pushed}
 use Rattle.sets.proofs.SetLaws.{none-has, pushed-first, pushed-next, pushed-lt}
-use Rattle.grid.specs.Grid.{most, entryOn, endsOn, twinOn, tasksOn, counterOn, fitOn, setsFrom, setsOn, twinRankOn, floorOn, settledOn, allSettledOn}
+use Rattle.grid.specs.Grid.{most, entryOn, endsOn, twinOn, tasksOn, slotsOn, counterOn, fitOn, setsFrom, setsOn, twinRankOn, floorOn, settledOn, allSettledOn, OnGrid}
+
+-- ---- another slot of the grid
+pub at-slot : {grid : List ℕ} {slot t : ℕ} → OnGrid grid slot → t < slotsOn grid → OnGrid grid t
+at-slot on l = record { tasks = on .tasks; cores = on .cores; slots = on .slots; counters = on .counters; slot-in = l }
 
 -- ---- the highest rank
 -- one core more

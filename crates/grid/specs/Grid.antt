@@ -84,9 +84,10 @@ endsOn grid slot = nth grid (16739 + slot)
 unfoldable pub allSettledOn : List ℕ → List ℕ → ℕ → Bool
 allSettledOn grid l slot = all (tasksOn grid) (λ v. imp (leb (endsOn grid slot) v) (settledOn grid l slot v))
 
--- a grid of at most 16 tasks, 4 cores and 1024 slots, and one of its slots
+-- a grid of at most 16 tasks, 4 cores and 1024 slots, each of whose entries has one of the 16385 counters of work left, and one of its slots
 pub record OnGrid (grid : List ℕ) (slot : ℕ) : Type 0 where
   pub tasks : tasksOn grid ≤ 16
   pub cores : coresOn grid ≤ 4
   pub slots : slotsOn grid ≤ 1024
+  pub counters : (t v : ℕ) → t < slotsOn grid → v < tasksOn grid → counterOn grid t v ≤ 16384
   pub slot-in : slot < slotsOn grid

@@ -5,10 +5,10 @@
 // for rule B, four a core, a 1 for each earlier twin, both 0 for the plain engine; the task count, the cores, the slots;
 // for each task, by the work left up to 15, the cores on which its rate is positive and within it, as bits; and for each
 // slot the first task whose job has its highest-numbered slot there, the task count if there is none.
-// Beside it stands `left`, the work left of each job at its counter, and 0 at the counter of closed slots.
+// Beside it stands `left`, the work left of each job at its counter, and 0 at the last, the counter of closed slots.
 ghost use mathlib.Core.Path.{_≡_};
 ghost use Prim.Native.Nat.{_+_, _≤_, _<_, min};
-ghost use Rattle.grid.specs.Grid.{counterOn, rateOn, fitOn, setsOn, twinRankOn, floorOn, settledOn, allSettledOn, tasksOn};
+ghost use Rattle.grid.specs.Grid.{counterOn, rateOn, fitOn, setsOn, twinRankOn, floorOn, settledOn, allSettledOn, tasksOn, OnGrid};
 use tasks::Work;
 
 // Where the grid's parts begin.
@@ -44,8 +44,8 @@ fn byte(x: u8) -> usize
 
 // The counter of the work left of a task's job in a slot.
 pub fn counter(grid: &[u16; 17763], slot: usize, task: usize) -> usize
-    requires { ⌜ (slot < 1024) × (task < 16) ⌝ }
-    ensures { λ r. ⌜ (r ≡ counterOn (now (grid .entry)) slot task) × (r < 32768) ⌝ }
+    requires { ⌜ OnGrid (now grid) slot × (task < tasksOn (now grid)) ⌝ }
+    ensures { λ r. ⌜ (r ≡ counterOn (now (grid .entry)) slot task) × (r ≤ 16384) ⌝ }
 {
     wide(grid[slot * 16 + task]) / 2
 }
@@ -74,8 +74,8 @@ fn fit(grid: &[u16; 17763], task: usize, work: Work) -> u64
 }
 
 // The sets of the tasks that may stand in a slot, where nothing stands yet.
-pub fn enter(grid: &[u16; 17763], left: &[u16; 32768], slot: usize) -> u64
-    requires { ⌜ (slot < 1024) × (tasksOn (now grid) ≤ 16) ⌝ }
+pub fn enter(grid: &[u16; 17763], left: &[u16; 16385], slot: usize) -> u64
+    requires { ⌜ OnGrid (now grid) slot ⌝ }
     ensures { λ r. ⌜ r ≡ setsOn (now (grid .entry)) (now (left .entry)) slot ⌝ }
 {
     let mut task = wide(grid[TASKS_AT]);
@@ -121,8 +121,8 @@ pub fn floor(grid: &[u16; 17763], table: &[u8; 4096], first: usize, core: usize)
 }
 
 // Whether a task's job has no work left, if this is its highest-numbered slot.
-fn settled(grid: &[u16; 17763], left: &[u16; 32768], slot: usize, task: usize) -> bool
-    requires { ⌜ (slot < 1024) × (task < 16) ⌝ }
+fn settled(grid: &[u16; 17763], left: &[u16; 16385], slot: usize, task: usize) -> bool
+    requires { ⌜ OnGrid (now grid) slot × (task < tasksOn (now grid)) ⌝ }
     ensures { λ r. ⌜ r ≡ settledOn (now (grid .entry)) (now (left .entry)) slot task ⌝ }
 {
     let entry = grid[slot * 16 + task];
@@ -134,8 +134,8 @@ fn settled(grid: &[u16; 17763], left: &[u16; 32768], slot: usize, task: usize) -
 }
 
 // Whether each job whose highest-numbered slot this is has no work left.
-pub fn all_settled(grid: &[u16; 17763], left: &[u16; 32768], slot: usize) -> bool
-    requires { ⌜ (slot < 1024) × (tasksOn (now grid) ≤ 16) ⌝ }
+pub fn all_settled(grid: &[u16; 17763], left: &[u16; 16385], slot: usize) -> bool
+    requires { ⌜ OnGrid (now grid) slot ⌝ }
     ensures { λ r. ⌜ r ≡ allSettledOn (now (grid .entry)) (now (left .entry)) slot ⌝ }
 {
     let n = wide(grid[TASKS_AT]);

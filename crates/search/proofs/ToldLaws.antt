@@ -136,9 +136,9 @@ told-end Stopped n u k t buffer long room = λ i. record { verdict = 14; tries =
 
 -- ---- the counters
 -- as many as the array has
-left-length : (list : TaskList) → length (leftOf list) ≡ 32768
+left-length : (list : TaskList) → length (leftOf list) ≡ 16385
 unfolding leftOf
-left-length list = filled-length (replicate 32768 0) 0 16384 (workAt (list .work)) ∙ length-replicate {A = ℕ} 32768 0
+left-length list = filled-length (replicate 16385 0) 0 16384 (workAt (list .work)) ∙ length-replicate {A = ℕ} 16385 0
 
 module _ {m : ℕ} (list : TaskList) (s : SoundList m (rows list)) where
   -- the counters hold each job's whole work
@@ -146,24 +146,24 @@ module _ {m : ℕ} (list : TaskList) (s : SoundList m (rows list)) where
   unfolding leftOf instanceOf done sum taskAt
   lefts-start t = record {
     counters = counters;
-    none-closed = filled-behind (replicate 32768 0) 0 16384 (workAt (list .work)) 16384 (omega arith) ∙ getD-replicate {A = ℕ} 32768 16384 0 0 (omega arith);
+    none-closed = filled-behind (replicate 16385 0) 0 16384 (workAt (list .work)) 16384 (omega arith) ∙ getD-replicate {A = ℕ} 16385 16384 0 0 (omega arith);
   }
     where
       counters : (i k : ℕ) → i ≢ 0 → i ≤ length (rows list) → k < tableLength (rows list) / task (rows list) i .period .0
-          → nth (filled (replicate 32768 0) 0 16384 (workAt (list .work))) (counterOf i k) ≡ task (rows list) i .work .0 - 0
+          → nth (filled (replicate 16385 0) 0 16384 (workAt (list .work))) (counterOf i k) ≡ task (rows list) i .work .0 - 0
       counters zero k x l h = absurd (x refl)
       counters (suc v) k x l h =
           let few : k < 1024 = omega (arith, div-le-self (tableLength (rows list)) (task (rows list) (suc v) .period .0), s .few-slots) in
           let w : v < 16 = omega (arith, s .few-tasks) in
-          ap (nth (filled (replicate 32768 0) 0 16384 (workAt (list .work)))) (sym (zero-add (k * 16 + v)))
-          ∙ filled-at (replicate 32768 0) 0 16384 (workAt (list .work)) (k * 16 + v) (omega arith) (rw (length-replicate {A = ℕ} 32768 0) (omega arith))
+          ap (nth (filled (replicate 16385 0) 0 16384 (workAt (list .work)))) (sym (zero-add (k * 16 + v)))
+          ∙ filled-at (replicate 16385 0) 0 16384 (workAt (list .work)) (k * 16 + v) (omega arith) (rw (length-replicate {A = ℕ} 16385 0) (omega arith))
           ∙ ap (nth (list .work)) (digits-mod k w)
           ∙ sym (ap (λ τ. τ .work .0) (is-task list s v l .1))
           ∙ omega arith
 
 -- ---- a walk over the filled arrays
 pub filled-walks : (list : TaskList) (m e L u : ℕ) (t : List ℕ) (r : ℕ) (t′ grid left l : List ℕ) → grid ≡ gridOf list m e L (replicate 17763 0)
-    → left ≡ filled (replicate 32768 0) 0 16384 (workAt (list .work)) → Ran grid 0 (setsOn grid left 0) t left u r t′ l → ListWalked list m e L u t r t′
+    → left ≡ filled (replicate 16385 0) 0 16384 (workAt (list .work)) → Ran grid 0 (setsOn grid left 0) t left u r t′ l → ListWalked list m e L u t r t′
 unfolding leftOf
 filled-walks list m e L u t r t′ grid left l eb el ran = record { left = l; ran = subst₂ (λ grid left. Ran grid 0 (setsOn grid left 0) t left u r t′ l) eb el ran }
 

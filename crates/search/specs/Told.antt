@@ -24,7 +24,7 @@ workAt work x = nth work (x % 16)
 
 -- the counters of a list: each job's whole work
 unfoldable pub leftOf : TaskList → List ℕ
-leftOf list = filled (replicate 32768 0) 0 16384 (workAt (list .work))
+leftOf list = filled (replicate 16385 0) 0 16384 (workAt (list .work))
 
 -- what a walk over the grid and the counters of a list answers and leaves: from u tries and the cells t, the number r and the cells t′
 pub record ListWalked (list : TaskList) (m e L u : ℕ) (t : List ℕ) (r : ℕ) (t′ : List ℕ) : Type 0 where

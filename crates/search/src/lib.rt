@@ -13,7 +13,7 @@ use tasks::Soundness;
 use tasks::TaskList;
 
 // Each job's work, sixteen counters a job number.
-fn fill_left(left: &mut [u16; 32768], work: [u16; 16])
+fn fill_left(left: &mut [u16; 16385], work: [u16; 16])
     ensures { λ _. ⌜ now (left .exit) ≡ filled (now (left .entry)) 0 16384 (workAt work) ⌝ }
 {
     let mut x: usize = 0;
@@ -93,7 +93,7 @@ fn walk_cells(
     ensures { λ r. ⌜ ListWalked list m engine (len .0) start (now (cells .entry)) r (now (cells .exit)) ⌝ }
 {
     let mut grid = [0; 17763];
-    let mut left = [0; 32768];
+    let mut left = [0; 16385];
     fill::fill_grid(&mut grid, list, m, engine, len);
     let work = list.work;
     fill_left(&mut left, work);

@@ -117,7 +117,7 @@ pub record Before (P : Instance) (first slot core sets : ℕ) (t l : List ℕ) :
   pub lefts : Lefts P (first + core) (nth t) l
   pub known : (d : ℕ) → d < first + core → nth t d ≤ P .tasks
   pub long : cells P ≤ length t
-  pub wide : length l ≡ 32768
+  pub wide : length l ≡ 16385
 
 -- after a value in it
 pub record After (P : Instance) (first slot core sets : ℕ) (t l : List ℕ) : Type 0 where
@@ -125,7 +125,7 @@ pub record After (P : Instance) (first slot core sets : ℕ) (t l : List ℕ) : 
   pub lefts : Lefts P (suc (first + core)) (nth t) l
   pub known : (d : ℕ) → d < suc (first + core) → nth t d ≤ P .tasks
   pub long : cells P ≤ length t
-  pub wide : length l ≡ 32768
+  pub wide : length l ≡ 16385
 
 -- the cells of a slot are the table's
 cell-in : {P : Instance} {first slot core sets : ℕ} {t l : List ℕ} → Before P first slot core sets t l → first + core < cells P
@@ -174,7 +174,7 @@ module _ {P : Instance} (small : Small P) (e b : ℕ) (grid : List ℕ) (ready :
 
     -- a value w in the cell: what is known after it
     after : (t : List ℕ) → take (first + core) t ≡ take (first + core) t₀ → length t ≡ length t₀ → (w : ℕ) → w ≤ P .tasks → (sets₁ : ℕ)
-        → Sets P slot (core + 1) (suc (first + core)) (nth (set t (first + core) w)) sets₁ → (l₁ : List ℕ) → length l₁ ≡ 32768
+        → Sets P slot (core + 1) (suc (first + core)) (nth (set t (first + core) w)) sets₁ → (l₁ : List ℕ) → length l₁ ≡ 16385
         → Lefts P (first + core + 1) (nth (set t (first + core) w)) l₁ → After P first slot core sets₁ (set t (first + core) w) l₁
     after t et el w lw sets₁ holds l₁ wide lefts = record {
       holds = holds;
@@ -189,7 +189,7 @@ module _ {P : Instance} (small : Small P) (e b : ℕ) (grid : List ℕ) (ready :
 
     -- what the walk below a value w tells
     below : (t : List ℕ) → take (first + core) t ≡ take (first + core) t₀ → length t ≡ length t₀ → (w : ℕ) → w ≤ P .tasks → (sets₁ : ℕ)
-        → Sets P slot (core + 1) (suc (first + core)) (nth (set t (first + core) w)) sets₁ → (l₁ : List ℕ) → length l₁ ≡ 32768
+        → Sets P slot (core + 1) (suc (first + core)) (nth (set t (first + core) w)) sets₁ → (l₁ : List ℕ) → length l₁ ≡ 16385
         → Lefts P (first + core + 1) (nth (set t (first + core) w)) l₁ → (u : ℕ) → u ≤ b
         → Shows b (cells P) (suc (first + core)) (set t (first + core) w) l₁ (next sets₁ (set t (first + core) w) l₁ u)
         (bwalk b (ruleOf e P) (values P) rest (take (first + core) t₀ ++ w ∷ []) u)
@@ -491,7 +491,7 @@ module _ {P : Instance} (small : Small P) (e b : ℕ) (grid : List ℕ) (ready :
       rw (ne-eqb (suc (jobEnd P (suc i) k) * P .cores) 0 (λ z. omega (arith, mul-pos {m = suc (jobEnd P (suc i) k)} {n = P .cores} (omega arith) (small .regular .some-core))))))
 
   -- the walk over the whole table, with u tries counted before it, is the engine's under the limit
-  pub walk-limited : (t l : List ℕ) → Lefts P 0 (nth t) l → cells P ≤ length t → length l ≡ 32768 → (u : ℕ) → u ≤ b
+  pub walk-limited : (t l : List ℕ) → Lefts P 0 (nth t) l → cells P ≤ length t → length l ≡ 16385 → (u : ℕ) → u ≤ b
       → Shows b (cells P) 0 t l (walkOn (cells P) grid b 0 0 0 (setsOn grid l 0) t l u) (limited b (spend u (walked e P)))
   unfolding Goes
   walk-limited t l lefts long wide u lu = shows-same refl (sym (bwalk-from b (ruleOf e P) (values P) (cells P) [] u lu)) (go (cells P) (omega arith) some)

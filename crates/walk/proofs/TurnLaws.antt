@@ -16,7 +16,7 @@ use Rattle.laws.specs.Lists.{nth}
 use lib.Count.{trailing-of-zero}
 use Rattle.sets.specs.Sets.{has, ofCore, lowest, without, Alone}
 use Rattle.sets.proofs.SetLaws.{none-has, of-core-has, of-core-alone, of-core-lt, without-has, without-alone, without-lt, lowest-in, lowest-first}
-use Rattle.grid.proofs.ReadLaws.{sets-none}
+use Rattle.grid.proofs.ReadLaws.{at-slot, sets-none}
 use Rattle.grid.specs.Grid.{counterOn, rateOn, evenOn, tasksOn, coresOn, slotsOn, cellsOn, setsOn, floorOn, allSettledOn, OnGrid}
 use Rattle.walk.specs.Machine.{End, Found, NoneFound, Stopped, walkNumber, State, state, Onward, unlessEnded, idleLast, placed, tryFrom, afterCell, walkOn, Stands, firstOn, cellsLeft, full, Leaves, Ran, RanAfter}
 
@@ -200,7 +200,7 @@ module _ {grid : List ℕ} {place sets first : ℕ} {t₀ l₀ : List ℕ} {trie
       may = sym (turn .rest-is task not-before (there .0)) ∙ there .1
 
       -- it is one of the list's
-      task-in : task < tasksOn grid
+      pub task-in : task < tasksOn grid
       task-in = elim (lt-or-ge task (tasksOn grid)) [
         | inl h ↦ h
         | inr h ↦ absurd (apart (sym may ∙ turn .stands .within task (place % 4) h (omega (arith, turn .stands .core-in, turn .stands .fits .cores))))
@@ -356,7 +356,7 @@ module _ {grid : List ℕ} {place sets : ℕ} (stands : Stands grid place sets) 
   -- at the next slot
   pub stands-slot : place / 4 + 1 < slotsOn grid → (l : List ℕ) (slot : ℕ) {sets′ : ℕ} → sets′ ≡ setsOn grid l slot → Stands grid ((place / 4 + 1) * 4) sets′
   stands-slot h l slot es = record {
-    fits = record { tasks = stands .fits .tasks; cores = stands .fits .cores; slots = stands .fits .slots; slot-in = omega arith };
+    fits = at-slot (stands .fits) (omega arith);
     core-in = omega (arith, stands .core-in);
     within = λ v c n _. ap (λ s. has s v c) es ∙ sets-none grid l slot (tasksOn grid) 0 v c n;
   }

@@ -5,7 +5,7 @@
 // A call takes six arguments at most, since a seventh would pass through memory: slot and core are one place, and the tries
 // are counted up to the largest number in place of the limit.
 ghost use mathlib.Core.Path.{_≡_};
-ghost use Prim.Native.Nat.{_-_, _<_};
+ghost use Prim.Native.Nat.{_-_, _≤_, _<_};
 ghost use Rattle.grid.specs.Grid.{setsOn, coresOn, OnGrid};
 ghost use Rattle.walk.specs.Machine.{Stands, Ran, RanAfter};
 ghost use Rattle.laws.specs.Lists.{nth};
@@ -43,8 +43,8 @@ fn less(work: Work, done: Work) -> Work
 }
 
 // Takes what a core of this rate does in a slot off a counter of work left, and gives what it was.
-fn put(left: &mut [u16; 32768], counter: usize, rate: u16) -> Work
-    requires { ⌜ counter < 32768 ⌝ }
+fn put(left: &mut [u16; 16385], counter: usize, rate: u16) -> Work
+    requires { ⌜ counter ≤ 16384 ⌝ }
     ensures { λ r. ⌜ (r .0 ≡ nth (now (left .entry)) counter) × (now (left .exit) ≡ set (now (left .entry)) counter (nth (now (left .entry)) counter - rate)) ⌝ }
 {
     let had = Work(left[counter]);
@@ -54,8 +54,8 @@ fn put(left: &mut [u16; 32768], counter: usize, rate: u16) -> Work
 }
 
 // Gives a counter back what it was.
-fn take_back(left: &mut [u16; 32768], counter: usize, had: Work)
-    requires { ⌜ counter < 32768 ⌝ }
+fn take_back(left: &mut [u16; 16385], counter: usize, had: Work)
+    requires { ⌜ counter ≤ 16384 ⌝ }
     ensures { λ _. ⌜ now (left .exit) ≡ set (now (left .entry)) counter (had .0) ⌝ }
 {
     left[counter] = had.0;
@@ -65,7 +65,7 @@ fn take_back(left: &mut [u16; 32768], counter: usize, had: Work)
 fn cell(
     table: &mut [u8; 4096],
     grid: &[u16; 17763],
-    left: &mut [u16; 32768],
+    left: &mut [u16; 16385],
     place: usize,
     mut used: u32,
     sets: u64,
@@ -119,7 +119,7 @@ fn cell(
 fn finish_slot(
     table: &mut [u8; 4096],
     grid: &[u16; 17763],
-    left: &mut [u16; 32768],
+    left: &mut [u16; 16385],
     place: usize,
     tries: u32,
     sets: u64,
@@ -142,12 +142,7 @@ fn finish_slot(
 }
 
 // The walk from the first cell.
-pub fn walk(
-    table: &mut [u8; 4096],
-    grid: &[u16; 17763],
-    left: &mut [u16; 32768],
-    tries: u32,
-) -> u64
+pub fn walk(table: &mut [u8; 4096], grid: &[u16; 17763], left: &mut [u16; 16385], tries: u32) -> u64
     requires { ⌜ OnGrid (now grid) 0 × (0 < coresOn (now grid)) ⌝ }
     ensures { λ r. ⌜ Ran (now (grid .entry)) 0 (setsOn (now (grid .entry)) (now (left .entry)) 0) (now (table .entry)) (now (left .entry)) tries r (now (table .exit)) (now (left .exit)) ⌝ }
 {

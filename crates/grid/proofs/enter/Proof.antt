@@ -5,7 +5,7 @@ use mathlib.Core.Path.{_≡_, _∙_}
 use native.Mathlib.Omega.{arith}
 use borrow.Author.Needs.{needs}
 use Rattle.grid.specs.Grid.{tasksOn, setsFrom}
-use Rattle.grid.proofs.ReadLaws.{sets-none-yet, sets-more, sets-all, sets-room}
+use Rattle.grid.proofs.ReadLaws.{at-slot, sets-none-yet, sets-more, sets-all, sets-room}
 use Rattle.grid.proofs.enter.Statement.{statement}
 use Rattle.grid.proofs.enter.Tie as tie
 
@@ -18,8 +18,11 @@ abbrev μ-loop : tie.MeasureT-loop
 loop-holds : tie.Need-loop-holds Inv-loop μ-loop
 loop-holds c = (search needs, sets-none-yet _ _ _ _ (c .wide .ensures .0))
 
+counter-requires : tie.Need-counter-requires Inv-loop μ-loop
+counter-requires c κs = (at-slot (c .before .before .before .before .pre) (omega arith), search needs)
+
 pushed-requires : tie.Need-pushed-requires Inv-loop μ-loop
-pushed-requires c κs = (sets-room _ _ _ _ _ (c .before .before .before .before .before .before .before .pre .1) (omega (arith, c .before .before .before .loop-test .taken)) (c .before .before .before .before .loop .inv .0) (c .before .before .before .before .loop .inv .1), c .fit .ensures .1)
+pushed-requires c κs = (sets-room _ _ _ _ _ (c .before .before .before .before .before .before .before .pre .tasks) (omega (arith, c .before .before .before .loop-test .taken)) (c .before .before .before .before .loop .inv .0) (c .before .before .before .before .loop .inv .1), c .fit .ensures .1)
 
 loop-again : tie.Need-loop-again Inv-loop μ-loop
 loop-again c =
@@ -31,5 +34,5 @@ returns c = sets-all _ _ _ _ _ (omega (arith, c .loop-test .left)) (c .before .l
 
 pub enter-spec : {M : Type 1} → statement M
 enter-spec = tie.close (tie.spec
-    Inv-loop μ-loop (λ c. search needs) (λ c κs. search needs) loop-holds (λ c. search needs) (λ c κs. search needs) (λ c. search needs)
+    Inv-loop μ-loop (λ c. search needs) (λ c κs. search needs) loop-holds (λ c. search needs) counter-requires (λ c. search needs)
     (λ c. search needs) (λ c κs. search needs) pushed-requires (λ c. search needs) loop-again returns)

@@ -3,8 +3,9 @@
 use borrow.Author.Needs.{needs}
 use native.Mathlib.Omega.{arith}
 use Rattle.sets.specs.Sets.{lowest}
+use Rattle.grid.proofs.ReadLaws.{at-slot}
 use Rattle.walk.specs.Machine.{cellsLeft}
-use Rattle.walk.proofs.TurnLaws.{first-at, cell-in, Turn, begins, bar-few, task-few, rises, bars, backs, ends, stops, idle-barred, idle-stops, idles, stands-without, stands-core, stands-slot, core-left, goes-on, slot-left, starved, founds, next-slots}
+use Rattle.walk.proofs.TurnLaws.{first-at, cell-in, Turn, begins, bar-few, task-in, task-few, rises, bars, backs, ends, stops, idle-barred, idle-stops, idles, stands-without, stands-core, stands-slot, core-left, goes-on, slot-left, starved, founds, next-slots}
 use Prim.Native.Nat.{ℕ, suc, _+_, _*_, _-_, _<_}
 use borrow.Fn.Kinds.{In}
 use borrow.Fn.PlainCycle.{Measures, is, falls, and}
@@ -108,7 +109,7 @@ cell-returns t c =
 
 cell-counter-requires : (t : ℕ) → cell-lts.Need-counter-requires (cell-claims t) (cell-at t) cell.Post cell-Inv-loop cell-μ-loop
 cell-counter-requires t c κs =
-    let s = c .before .before .before .before .before .before .before .before .before .before .before .before .before .pre .1 in (omega (arith, s .fits .slots, s .fits .slot-in), task-few (c .before .before .before .before .before .before .before .loop .inv) (c .before .before .before .before .before .before .loop-test .taken) (c .before .before .before .before .before .lowest .ensures))
+    let s = c .before .before .before .before .before .before .before .before .before .before .before .before .before .pre .1 in (s .fits, task-in (c .before .before .before .before .before .before .before .loop .inv) (c .before .before .before .before .before .before .loop-test .taken) (c .before .before .before .before .before .lowest .ensures))
 
 cell-rate-requires : (t : ℕ) → cell-lts.Need-rate-requires (cell-claims t) (cell-at t) cell.Post cell-Inv-loop cell-μ-loop
 cell-rate-requires t c κs =
@@ -196,11 +197,11 @@ finish-slot-returns t c =
 
 finish-slot-all-settled-requires : (t : ℕ) → finish-slot-lts.Need-all-settled-requires (finish-slot-claims t) (finish-slot-at t) finish-slot.Post
 finish-slot-all-settled-requires t c κs =
-    (omega (arith, c .before .before .before .before .pre .1 .fits .slots, c .before .before .before .before .pre .1 .fits .slot-in), c .before .before .before .before .pre .1 .fits .tasks)
+    c .before .before .before .before .pre .1 .fits
 
 finish-slot-enter-requires : (t : ℕ) → finish-slot-lts.Need-enter-requires (finish-slot-claims t) (finish-slot-at t) finish-slot.Post
 finish-slot-enter-requires t c κs =
-    (omega (arith, c .before .before .before .before .before .before .before .before .before .before .pre .1 .fits .slots, c .before .before .wide2 .ensures .0, c .before .if3 .taken), c .before .before .before .before .before .before .before .before .before .before .pre .1 .fits .tasks)
+    at-slot (c .before .before .before .before .before .before .before .before .before .before .pre .1 .fits) (omega (arith, c .before .before .wide2 .ensures .0, c .before .if3 .taken))
 
 finish-slot-cell-requires-2 : (t : ℕ) → finish-slot-lts.Need-cell-requires-2 (finish-slot-claims t) (finish-slot-at t) finish-slot.Post
 finish-slot-cell-requires-2 t c κs =
