@@ -1,4 +1,4 @@
--- What stands on the grid, as the code finds it: entries of the entries, marks of rules A and B, and the loops that store them.
+-- What stands on the grid, as the code finds it: entries, marks of rules A and B, and the loops that store them.
 -- Assumes nothing.
 use Prim.Native.Nat.{ℕ, zero, suc, _+_, _*_, _-_, _/_, _%_, _≤_, _<_}
 use mathlib.Core.Path.{_≡_, refl, sym, ap, _∙_}

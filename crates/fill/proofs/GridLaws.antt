@@ -122,7 +122,7 @@ entry-same : (L m : ℕ) (ts : List Task) (i t : ℕ) → entryFor L (task ts i)
 unfolding entryFor entryOf instanceOf isJobs
 entry-same L m ts i t = refl
 
--- the entries's entry of a task in a slot
+-- the entry of a task in a slot
 entry-is : (list : TaskList) (L t v : ℕ) → v < 16 → v < list .n → entryAt list L (t * 16 + v) ≡ entryFor L (taskAt list v) (suc v) t
 unfolding entryAt
 entry-is list L t v lv ln = rw (digits-mod t lv, digits-div t lv, lt-ltb v (list .n) ln)

@@ -100,7 +100,7 @@ markAt n rates m e L x =
     (cond (ltb x fits) (sizeAt n m L x)
     (fitMark rates (x - fits))))
 
--- the first task whose job has its highest-numbered slot in this slot of the entries, n if there is none
+-- the first task whose job has its highest-numbered slot in this slot, by its entry; n if there is none
 unfoldable pub endMark : List ℕ → ℕ → ℕ → ℕ
 endMark entries n t = seek n (λ v. nth entries (t * 16 + v) % 2)
 

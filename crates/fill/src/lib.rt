@@ -1,4 +1,4 @@
-// The grid of a sound list: the grid of entries, the marks behind it, and the marks of the slots in which jobs end.
+// The walk's grid of a sound list: the entries, the marks behind them, and the marks of the slots in which jobs end.
 ghost use mathlib.Core.Path.{_≡_};
 ghost use Prim.Native.Nat.{ℕ, suc, _*_, _≤_, _<_, _/_, _%_};
 ghost use Rattle.laws.specs.Lists.{filled};
@@ -17,10 +17,10 @@ use tasks::TaskList;
 use tasks::Work;
 use windows::Window;
 
-// Twice the counter of closed slots.
+// Twice the counter of a task in a slot where it is closed.
 const CLOSED: u16 = 32768;
 
-// Where the parts between the grid and the marks of ends begin, counted from the first of them, the rates.
+// Where the parts between the entries and the marks of ends begin, counted from the first of them, the rates.
 const EVEN_MARKS: usize = EVEN_AT - RATES_AT;
 
 const TWIN_MARKS: usize = TWINS_AT - RATES_AT;
@@ -54,7 +54,7 @@ fn entry(len: Slots, t: Task, v: u16, slot: Slots) -> u16
     }
 }
 
-// What stands at place x of the grid: sixteen tasks a slot.
+// The entry at place x: sixteen tasks a slot.
 fn entry_at(list: TaskList, len: Slots, x: usize) -> u16
     requires { ⌜ (list .n ≤ 16) × ((k : ℕ) → k < list .n → Fit (len .0) (taskAt list k)) × (x < len .0 * 16) ⌝ }
     ensures { λ r. ⌜ r ≡ entryAt list (len .0) x ⌝ }
@@ -72,7 +72,7 @@ fn entry_at(list: TaskList, len: Slots, x: usize) -> u16
     }
 }
 
-// The grid, slot by slot.
+// The entries, slot by slot.
 fn fill_entries(grid: &mut [u16; 17763], list: TaskList, len: Slots)
     requires { ⌜ (list .n ≤ 16) × (len .0 ≤ 1024) × ((k : ℕ) → k < list .n → Fit (len .0) (taskAt list k)) ⌝ }
     ensures { λ _. ⌜ now (grid .exit) ≡ filled (now (grid .entry)) 0 (len .0 * 16) (entryAt list (len .0)) ⌝ }
@@ -85,7 +85,7 @@ fn fill_entries(grid: &mut [u16; 17763], list: TaskList, len: Slots)
     }
 }
 
-// A byte as a number of the grid.
+// A rate as a number of the grid.
 fn rate_entry(x: u8) -> u16
     ensures { λ r. ⌜ (r ≡ x) × (r ≤ 255) ⌝ }
 {
@@ -219,7 +219,7 @@ fn mark(n: u8, rates: [u8; 64], m: u8, engine: u8, slots: u16, x: usize) -> u16
     fit_mark(rates, x - FIT_MARKS)
 }
 
-// The marks, behind the grid.
+// The marks, behind the entries.
 fn fill_marks(grid: &mut [u16; 17763], n: u8, rates: [u8; 64], m: u8, engine: u8, slots: u16)
     requires { ⌜ n ≤ 16 ⌝ }
     ensures { λ _. ⌜ now (grid .exit) ≡ filled (now (grid .entry)) 16384 355 (markAt n rates m engine slots) ⌝ }
@@ -231,7 +231,7 @@ fn fill_marks(grid: &mut [u16; 17763], n: u8, rates: [u8; 64], m: u8, engine: u8
     }
 }
 
-// The first task whose job has its highest-numbered slot in this slot of the grid, n if there is none.
+// The first task whose job has its highest-numbered slot in this slot, by its entry; n if there is none.
 fn end_mark(grid: &[u16; 17763], n: usize, slot: usize) -> u16
     requires { ⌜ (n ≤ 16) × (slot < 1024) ⌝ }
     ensures { λ r. ⌜ r ≡ endMark (now (grid .entry)) n slot ⌝ }
@@ -246,7 +246,7 @@ fn end_mark(grid: &[u16; 17763], n: usize, slot: usize) -> u16
     n as u16
 }
 
-// The marks of the slots in which jobs end, by the grid.
+// The marks of the slots in which jobs end, by the entries.
 fn fill_ends(grid: &mut [u16; 17763], n: usize, slots: usize)
     requires { ⌜ (n ≤ 16) × (slots ≤ 1024) ⌝ }
     ensures { λ _. ⌜ now (grid .exit) ≡ filled (now (grid .entry)) 16739 slots (endMark (now (grid .entry)) n) ⌝ }
@@ -259,7 +259,7 @@ fn fill_ends(grid: &mut [u16; 17763], n: usize, slots: usize)
     }
 }
 
-// The grid of a sound list.
+// The whole grid.
 pub fn fill_grid(grid: &mut [u16; 17763], list: TaskList, m: u8, engine: u8, len: Slots)
     requires { ⌜ (list .n ≤ 16) × (len .0 ≤ 1024) × ((k : ℕ) → k < list .n → Fit (len .0) (taskAt list k)) ⌝ }
     ensures { λ _. ⌜ now (grid .exit) ≡ gridOf list m engine (len .0) (now (grid .entry)) ⌝ }

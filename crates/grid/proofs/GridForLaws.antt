@@ -49,7 +49,7 @@ module _ (P : Instance) (i t : ℕ) where
       go true h = refl
       go false h = absurd h
 
-  -- of a closed slot
+  -- where the task is closed
   entry-closed : (T (P .opens i t) → ⊥) → entryOf P i t ≡ 2 * closedCounter
   unfolding entryOf
   entry-closed o = go (P .opens i t) o
@@ -111,7 +111,7 @@ module _ {P : Instance} {e : ℕ} {grid : List ℕ} (small : Small P) (ready : G
     pub entry-odd : T (P .opens (suc v) slot) → entryOn grid slot v % 2 ≡ gate (eqb (jobEnd P (suc v) (P .job (suc v) slot)) slot) 1
     entry-odd o = omega (arith, ready .entries slot v ls lv ∙ entry-open P (suc v) slot o, gate-one (eqb (jobEnd P (suc v) (P .job (suc v) slot)) slot))
 
-    -- a closed slot has the counter of closed slots, and an even entry
+    -- a task that is closed there has the counter for that, and an even entry
     pub counter-closed : (T (P .opens (suc v) slot) → ⊥) → (counterOn grid slot v ≡ closedCounter) × (entryOn grid slot v % 2 ≡ 0)
     counter-closed x = omega (arith, ready .entries slot v ls lv ∙ entry-closed P (suc v) slot x)
 
@@ -119,7 +119,7 @@ module _ {P : Instance} {e : ℕ} {grid : List ℕ} (small : Small P) (ready : G
     pub job-in : P .job (suc v) slot < P .jobs (suc v)
     job-in = small .regular .job-there (suc v) slot (omega arith) lv ls
 
-    -- its counter is before that of closed slots
+    -- its counter is before the last
     counter-in : T (P .opens (suc v) slot) → counterOn grid slot v < closedCounter
     counter-in o = omega (arith, counter-open o, job-in, small .few-jobs (suc v) (omega arith) lv, small .few-tasks)
 

@@ -39,7 +39,7 @@ pub floor-is : (grid t : List ℕ) (first core j m : ℕ) → j ≡ core → m �
 unfolding floorOn
 floor-is grid t first core j m e h = h ∙ ap (λ n. most n (twinRankOn grid t first core)) e
 
--- ---- a slot that closes
+-- ---- a slot whose jobs are settled
 module _ (grid l : List ℕ) (slot : ℕ) where
   pub all-settled-not : (v : ℕ) (r : Bool) → v < tasksOn grid → endsOn grid slot ≤ v → r ≡ settledOn grid l slot v → r ≡ false → false ≡ allSettledOn grid l slot
   unfolding allSettledOn

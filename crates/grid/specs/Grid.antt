@@ -1,4 +1,4 @@
--- What stands on the grid, and what the walk reads there with the table and the work left.
+-- What stands on the grid, whose parts are drawn at the head of src/lib.rt, and what the walk reads there with the table and the work left.
 -- Assumes nothing.
 use Prim.Native.Nat.{ℕ, zero, suc, _+_, _*_, _/_, _%_, _≤_, _<_, max, min}
 use mathlib.Core.Bool.{Bool, not}
@@ -15,7 +15,7 @@ unfoldable pub most : ℕ → (ℕ → ℕ) → ℕ
 most zero g = 0
 most (suc n) g = max (most n g) (g n)
 
--- the grid: twice the counter of the job of task v in a slot, and 1 more if this is its highest-numbered slot
+-- an entry: twice the counter of the job of task v in a slot, and 1 more if this is its highest-numbered slot
 abbrev pub entryOn : List ℕ → ℕ → ℕ → ℕ
 entryOn grid slot v = nth grid (slot * 16 + v)
 
@@ -76,7 +76,7 @@ floorOn grid t first core = most core (twinRankOn grid t first core)
 unfoldable pub settledOn : List ℕ → List ℕ → ℕ → ℕ → Bool
 settledOn grid l slot v = imp (not (eqb (entryOn grid slot v % 2) 0)) (eqb (nth l (counterOn grid slot v)) 0)
 
--- the slot's mark: the task with which closing it begins, since no task before it has a job that ends here (`Ready`)
+-- the slot's mark: the task with which the look at its jobs begins, since no task before it has a job that ends here (`GridFor`)
 abbrev pub endsOn : List ℕ → ℕ → ℕ
 endsOn grid slot = nth grid (16739 + slot)
 

@@ -27,7 +27,7 @@ pub record Small (P : Instance) : Type 0 where
 abbrev pub counterOf : ℕ → ℕ → ℕ
 counterOf i k = k * 16 + pred i
 
--- the counter of closed slots
+-- the counter of a task in a slot where it is closed
 abbrev pub closedCounter : ℕ
 closedCounter = 16384
 

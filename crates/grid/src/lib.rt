@@ -1,17 +1,27 @@
-// The grid, which is filled once for a search, and what the walk reads there.
+// The walk's grid: one array, filled once for a search, with all that the walk reads of a list; and how it is read.
 //
-// For slot t and task v at place t * 16 + v it has twice the number of the counter of the task's job there, one more in the
-// job's highest-numbered slot; then the rates, four a task; for rule A a 1 for each task whose positive rates are equal,
-// for rule B, four a core, a 1 for each earlier twin, both 0 for the plain engine; the task count, the cores, the slots;
-// for each task, by the work left up to 15, the cores on which its rate is positive and within it, as bits; and for each
-// slot the first task whose job has its highest-numbered slot there, the task count if there is none.
-// Beside it stands `left`, the work left of each job at its counter, and 0 at the last, the counter of closed slots.
+//      place   what stands there                                                          how many
+//          0   entries: for slot t and task v, at t * 16 + v, twice the counter of the
+//              task's job there, and 1 more in the job's highest-numbered slot            1024 * 16
+//      16384   rates: of task v on core c, at v * 4 + c                                     16 * 4
+//      16448   even: for rule A, 1 for a task whose positive rates are equal                16
+//      16464   twins: for rule B, at c * 4 + j, 1 if core j is an earlier twin of c          4 * 4
+//      16480   the task count, the cores, the slots                                          3
+//      16483   fits: for task v and work w up to 15, at v * 16 + w, the cores, as bits,
+//              on which its rate is positive and within that work                           16 * 16
+//      16739   ends: for each slot the first task whose job has its highest-numbered
+//              slot there; the task count if there is none                                1024
+//      17763
+//
+// The marks of rules A and B are 0 for the plain engine. Tasks and cores count from 0 here.
+// Beside the grid stands `left`, the work left of each job at its counter, job * 16 + task; its last place, 16384, is the
+// counter of a task in a slot where it is closed, and is always 0.
 ghost use mathlib.Core.Path.{_≡_};
 ghost use Prim.Native.Nat.{_+_, _≤_, _<_, min};
 ghost use Rattle.grid.specs.Grid.{counterOn, rateOn, fitOn, setsOn, twinRankOn, floorOn, settledOn, allSettledOn, tasksOn, OnGrid};
 use tasks::Work;
 
-// Where the grid's parts begin.
+// Where the grid's parts begin, behind the entries.
 pub const RATES_AT: usize = 16384;
 
 pub const EVEN_AT: usize = 16448;
@@ -28,14 +38,14 @@ pub const FITS_AT: usize = 16483;
 
 pub const ENDS_AT: usize = 16739;
 
-// A number of the grid, and that it is one.
+// A number of the grid as an index, and that it is one of 16 bits.
 pub fn wide(x: u16) -> usize
     ensures { λ r. ⌜ (r ≡ x) × (r ≤ 65535) ⌝ }
 {
     x as usize
 }
 
-// A value of a cell, and that it is one.
+// A value of a cell as a number, and that it is one of 8 bits.
 fn byte(x: u8) -> usize
     ensures { λ r. ⌜ (r ≡ x) × (r ≤ 255) ⌝ }
 {

@@ -1,4 +1,4 @@
--- `grid::counter` meets its contract: the grid has no counter behind that of closed slots.
+-- `grid::counter` meets its contract: no entry of the grid has a counter behind the last.
 -- Assumes nothing.
 use native.Mathlib.Omega.{arith}
 use borrow.Author.Needs.{needs}
