@@ -77,6 +77,39 @@ pub fn large(random: &mut Random) -> Problem {
     }
 }
 
+/// A random list, its times in proportion to `slots`.
+pub fn stretched(random: &mut Random, slots: usize) -> Problem {
+    let count = random.between(3, MOST_TASKS);
+    let cores = random.between(1, MOST_CORES);
+    let (least_rate, most_rate) = random.pick(&[(1, 1), (0, 3)]);
+    let engine = random.below(2) as u32;
+    let task = |at| {
+        let mut rates = [0; MOST_CORES];
+        rates[..cores].fill_with(|| random.between(least_rate, most_rate) as u8);
+        let jobs = if at == 0 {
+            1
+        } else {
+            random.pick(&[1, 1, 2, 4])
+        };
+        let period = slots / jobs;
+        let deadline = period * random.between(5, 12) / 12;
+        let work = deadline * cores * random.between(6, 18) / (12 * count);
+        Task {
+            offset: (slots * random.below(12) / 12) as u16,
+            work: work.max(1) as u16,
+            deadline: deadline as u16,
+            period: period as u16,
+            rates,
+        }
+    };
+    Problem {
+        tasks: (0..count).map(task).collect(),
+        cores: cores as u32,
+        engine,
+        limit: USUAL,
+    }
+}
+
 /// Problems with every mix of good and bad counts, cores and engines; cut off to a byte, 256 and 257
 /// would be 0 and 1.
 pub fn out_of_range() -> Vec<Problem> {

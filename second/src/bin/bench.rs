@@ -1,11 +1,13 @@
 //! Times the proved walk and the same walk in ordinary Rust over the same lists in one process; then
-//! the checkers and the players.
+//! the checkers and the players. Last, the stack that each proved call takes.
 
 #[path = "../proved.rs"]
-#[allow(dead_code)] // the search, the checker and a step are timed
+#[allow(dead_code)] // no record is read back
 mod proved;
 
 use second::check::first_fault;
+use second::frames::problem_text;
+use second::lists;
 use second::player::{self, Record};
 use second::random::Random;
 use second::tasks::{Problem, Task, MOST_CELLS, MOST_CORES, MOST_SLOTS, MOST_TASKS};
@@ -27,6 +29,11 @@ const LEAST_TRIES: u32 = 10_000;
 
 /// How many steps of the player are timed at a time.
 const STEPS: u32 = 10_000;
+
+/// The stack of a thread, how much of it is painted, and how much may be in use above the paint.
+const STACK: usize = 8 << 20;
+const PAINTED: usize = 4 << 20;
+const FRAME: usize = 1024;
 
 /// The slots of a short table and of a long one.
 const SHORT: usize = 12;
@@ -89,10 +96,10 @@ fn main() {
         );
     }
 
-    println!("bytes of stack for a table of {MOST_CELLS} cells:");
-    for (name, stack) in NAMES.into_iter().zip(WALKS.map(stack_taken)) {
-        println!("  {name} {stack}");
-    }
+    println!("bytes of stack, proved; full is a table of {MOST_CELLS} cells without an idle one:");
+    let thread = thread::Builder::new().stack_size(STACK).spawn(print_stacks);
+    let ended = thread.expect("a thread can be started").join();
+    ended.expect("the calls end");
 }
 
 fn ordinary(problem: &Problem, table: &mut [u8]) -> (u32, u32) {
@@ -143,7 +150,7 @@ fn cost(all: &[Timed]) -> [f64; 2] {
 
 /// Millions of cells that the ordinary and the proved checker check per second.
 fn cells_checked() -> [f64; 2] {
-    let problem = full_list();
+    let problem = full_list(MOST_SLOTS, MOST_CORES);
     let mut table = vec![0; MOST_CELLS];
     ordinary(&problem, &mut table);
     let checkers: [fn(&Problem, &[u8]) -> bool; 2] = [
@@ -230,35 +237,9 @@ fn ends(problem: &Problem, ending: Ending) -> bool {
 
 /// A random list, its times in proportion to `slots`.
 fn stretched(number: u64, slots: usize) -> Problem {
-    let mut random = Random::new(number);
-    let count = random.between(3, MOST_TASKS);
-    let cores = random.between(1, MOST_CORES);
-    let (least_rate, most_rate) = random.pick(&[(1, 1), (0, 3)]);
-    let engine = random.below(2) as u32;
-    let task = |at| {
-        let mut rates = [0; MOST_CORES];
-        rates[..cores].fill_with(|| random.between(least_rate, most_rate) as u8);
-        let jobs = if at == 0 {
-            1
-        } else {
-            random.pick(&[1, 1, 2, 4])
-        };
-        let period = slots / jobs;
-        let deadline = period * random.between(5, 12) / 12;
-        let work = deadline * cores * random.between(6, 18) / (12 * count);
-        Task {
-            offset: (slots * random.below(12) / 12) as u16,
-            work: work.max(1) as u16,
-            deadline: deadline as u16,
-            period: period as u16,
-            rates,
-        }
-    };
     Problem {
-        tasks: (0..count).map(task).collect(),
-        cores: cores as u32,
-        engine,
         limit: LIMIT,
+        ..lists::stretched(&mut Random::new(number), slots)
     }
 }
 
@@ -295,40 +276,67 @@ fn lengthened(number: u64, slots: usize) -> Problem {
     }
 }
 
-/// The bytes of stack that a walk takes to fill the largest table: a thread's stack is painted
-/// below the frame in use, and afterwards the deepest place without paint is looked for.
-fn stack_taken(walk: Walk) -> usize {
-    const STACK: usize = 64 << 20;
-    const PAINTED: usize = 48 << 20;
-    const FRAME: usize = 1024;
-    const PAINT: u64 = 0xA5A5_A5A5_A5A5_A5A5;
-    let measure = move || {
-        let problem = full_list();
-        let mut table = vec![0; MOST_CELLS];
-        let here = (&raw const problem).addr() & !7;
-        let words = || (here - PAINTED..here - FRAME).step_by(8);
-        for word in words() {
-            // SAFETY: the word lies in this thread's stack, below the frame in use.
-            unsafe { (word as *mut u64).write_volatile(PAINT) };
-        }
-        walk(&problem, &mut table);
-        let deepest = words().find(|&word| {
-            // SAFETY: as above.
-            unsafe { (word as *const u64).read_volatile() != PAINT }
-        });
-        here - deepest.expect("a walk takes more than this frame")
-    };
-    thread::Builder::new()
-        .stack_size(STACK)
-        .spawn(measure)
-        .expect("a thread can be started")
-        .join()
-        .expect("the walk ends")
+/// Prints the stack of each call, and of the ordinary search. No search takes more than one that
+/// puts a task into each of the most cells.
+fn print_stacks() {
+    let small = full_list(1, 1);
+    let full = full_list(MOST_SLOTS, MOST_CORES);
+    let mut no_period = full.clone();
+    no_period.tasks[0].period = 0;
+    let mut no_engine = full.clone();
+    no_engine.engine = 2;
+    let text = problem_text(&full);
+    let table = &mut vec![0; MOST_CELLS];
+    let player = &mut proved::Player::from(&timed_record(1, 1));
+    let mut search = |problem| proved::search(problem, table).0;
+    let length = |text| proved::plan_text(text).len() as u32;
+    print_stack("search, refused by 3", 3, || search(&no_period));
+    print_stack("search, refused by 9", 9, || search(&no_engine));
+    print_stack("search, H = 1 on one core", 0, || search(&small));
+    print_stack("search, full", 0, || search(&full));
+    print_stack("ordinary search, full", 0, || ordinary(&full, table).0);
+    print_stack("plan_text, refused by 24", 16, || length(b""));
+    print_stack("plan_text, full", 15_376, || length(&text));
+    print_stack("check, full", 0, || proved::check(&full, table)[0].into());
+    print_stack("start, full", 0, || {
+        proved::start(player, &full, table, 0).0
+    });
+    print_stack("step", 0, || proved::step(player, 1).0);
 }
 
-/// A list whose only table has 4096 cells and none of them idle.
-fn full_list() -> Problem {
-    let slots = MOST_SLOTS as u16;
+/// Prints the bytes of stack that a call takes, which is to tell a number: the thread's stack is
+/// painted, and after the call the deepest place without paint is looked for. A few bytes of the
+/// caller's frame are counted too.
+#[inline(never)]
+fn print_stack(name: &str, told: u32, call: impl FnOnce() -> u32) {
+    const PAINT: u64 = 0xA5A5_A5A5_A5A5_A5A5;
+    let here = (&raw const told).addr() & !7;
+    let words = || (here - PAINTED..here - FRAME).step_by(8);
+    for word in words() {
+        // SAFETY: the word lies in this thread's stack, below the frame in use.
+        unsafe { (word as *mut u64).write_volatile(PAINT) };
+    }
+    let (place, answer) = called_below(call);
+    let deepest = words().find(|&word| {
+        // SAFETY: as above.
+        unsafe { (word as *const u64).read_volatile() != PAINT }
+    });
+    assert_eq!(answer, told, "{name}");
+    let stack = place - deepest.expect("a call takes some stack");
+    println!("  {name} {stack}");
+}
+
+/// Calls from a place among the paint, and gives that place and the answer.
+#[inline(never)]
+fn called_below(call: impl FnOnce() -> u32) -> (usize, u32) {
+    let room = [0u8; 2 * FRAME];
+    let answer = call();
+    (black_box(&room).as_ptr().addr(), answer)
+}
+
+/// A list whose only table has no idle cell.
+fn full_list(slots: usize, cores: usize) -> Problem {
+    let slots = slots as u16;
     let task = |at| Task {
         offset: 0,
         work: slots,
@@ -337,8 +345,8 @@ fn full_list() -> Problem {
         rates: from_fn(|core| u8::from(core == at)),
     };
     Problem {
-        tasks: (0..MOST_CORES).map(task).collect(),
-        cores: MOST_CORES as u32,
+        tasks: (0..cores).map(task).collect(),
+        cores: cores as u32,
         engine: 1,
         limit: LIMIT,
     }
