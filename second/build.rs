@@ -1,4 +1,4 @@
-//! Links the archive of the proved library, XIPHOMERA_ARCHIVE, into the two programs.
+//! Links the archive of the proved library, XIPHOMERA_ARCHIVE, into the programs.
 
 fn main() {
     println!("cargo:rerun-if-env-changed=XIPHOMERA_ARCHIVE");

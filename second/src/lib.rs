@@ -1,7 +1,7 @@
 //! An ordinary planner, written from the exact rules alone, to hold the proved library against.
 //!
-//! `cargo test` needs nothing else. The programs `compare` and `bench` link the proved library; the
-//! environment variable XIPHOMERA_ARCHIVE gives the path of its static archive.
+//! `cargo test` needs nothing else. The programs in `bin` link the proved library; the environment
+//! variable XIPHOMERA_ARCHIVE gives the path of its static archive.
 
 pub mod brute;
 pub mod check;

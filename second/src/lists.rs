@@ -110,6 +110,62 @@ pub fn stretched(random: &mut Random, slots: usize) -> Problem {
     }
 }
 
+/// A random list that has a table with at least six cells in ten taken, on cores of speeds up to
+/// `most_rate`: each task gets a core and, for each of its jobs, as many of the slots in the job's
+/// window that are still free there.
+pub fn from_table(random: &mut Random, most_rate: usize) -> Problem {
+    let slots = random.pick(&[24, 60, 120, 240]);
+    let count = random.between(3, MOST_TASKS);
+    let cores = random.between(1, MOST_CORES);
+    let mut rates = [0; MOST_CORES];
+    rates[..cores].fill_with(|| random.between(1, most_rate) as u8);
+    let mut free = vec![[true; MOST_CORES]; slots];
+    let mut cells = 0;
+    let mut tasks = Vec::new();
+    for at in 0..count {
+        let core = random.below(cores);
+        let jobs = if at == 0 {
+            1
+        } else {
+            random.pick(&[1, 2, 3, 4, 6, 12])
+        };
+        let period = slots / jobs;
+        let mut task = Task {
+            offset: random.below(slots) as u16,
+            work: 0,
+            deadline: random.between(period / 2, period) as u16,
+            period: period as u16,
+            rates,
+        };
+        let mut windows = vec![Vec::new(); jobs];
+        for slot in (0..slots).filter(|&slot| free[slot][core] && task.open(slot, slots)) {
+            windows[task.job(slot, slots)].push(slot);
+        }
+        let share = (2 * period * cores / count).max(1);
+        let room = windows.iter().map(Vec::len).fold(share, usize::min);
+        if room > 0 {
+            let taken = random.between(1, room);
+            for mut window in windows {
+                for _ in 0..taken {
+                    free[window.swap_remove(random.below(window.len()))][core] = false;
+                }
+            }
+            cells += taken * jobs;
+            task.work = (taken * rates[core] as usize) as u16;
+            tasks.push(task);
+        }
+    }
+    if tasks.len() < 3 || cells * 10 < slots * cores * 6 {
+        return from_table(random, most_rate);
+    }
+    Problem {
+        tasks,
+        cores: cores as u32,
+        engine: 1,
+        limit: USUAL,
+    }
+}
+
 /// Problems with every mix of good and bad counts, cores and engines; cut off to a byte, 256 and 257
 /// would be 0 and 1.
 pub fn out_of_range() -> Vec<Problem> {
