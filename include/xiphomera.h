@@ -4,7 +4,11 @@
  * refused by 1, whatever they hold. A table comes as a pointer and its number of cells: H x m of them, slot by slot
  * from slot 0, core by core within a slot; a cell is 0 (idle) or a task number. Every call copes with every number
  * that it is handed, cuts none of them off, and keeps nothing of what it is lent. No pointer may be null, not even one
- * to 0 records or cells, and what is written to may not overlap with anything else that the call is lent. */
+ * to 0 records or cells, and what is written to may not overlap with anything else that the call is lent.
+ *
+ * Tasks and cores count from 1, slots and jobs from 0: task k is tasks[k - 1]. H is the least common multiple of all
+ * periods, m the number of cores. The rules are docs/RULES.md. The bytes of stack that a call takes stand with it, as
+ * measured on x86-64; no call takes any other memory. */
 #ifndef XIPHOMERA_H
 #define XIPHOMERA_H
 
@@ -49,6 +53,9 @@ typedef struct xiphomera_task {
     uint8_t rates[4];  /* at 8: units of work a slot, one a core, 0..15; 0 beyond the board's last core */
 } xiphomera_task;
 
+/* Cells of the longest table, 1024 slots on 4 cores: a buffer of so many always suffices. */
+#define XIPHOMERA_LONGEST_TABLE 4096
+
 /* ---- The player */
 
 /* The player's record, 4140 bytes without gaps. It is the caller's; a start makes it and a step advances it. */
@@ -60,7 +67,7 @@ typedef struct xiphomera_player {
     uint16_t offsets[16]; /* at 10: the tasks' offsets; unused ones are 0 */
     uint8_t m;            /* at 42: the cores */
     uint8_t n;            /* at 43: the task count */
-    uint8_t table[4096];  /* at 44: the table; unused cells are 0 */
+    uint8_t table[XIPHOMERA_LONGEST_TABLE]; /* at 44: the table; unused cells are 0 */
 } xiphomera_player;
 
 /* What a start and a step answer is verdict x 2^32 + missed; what a search answers, verdict x 2^32 + tries. */
@@ -68,23 +75,28 @@ static inline uint32_t xiphomera_verdict(uint64_t answer) { return (uint32_t)(an
 static inline uint32_t xiphomera_missed(uint64_t answer) { return (uint32_t)answer; }
 static inline uint32_t xiphomera_tries(uint64_t answer) { return (uint32_t)answer; }
 
-/* Makes the record for a valid table at a tick and shows slot 0: four cells, one a core. Refusals 1 to 8, 10 and 11
- * leave the record as it was and show four 0 cells. */
+/* Makes the record for a valid table at a tick and shows slot 0: four cells, one a core, each a task or 0. A task is
+ * shown as 0 until its offset has passed since the start. Refusals 1 to 8, 10 and 11 leave the record as it was and
+ * write four 0 cells; after 11 a check says which fault. Stack: at most 42,336. */
 uint64_t xiphomera_start(xiphomera_player *player, const xiphomera_task *tasks, size_t count, uint32_t cores,
                          const uint8_t *table, size_t table_length, uint32_t tick, uint8_t cells[4]);
 
 /* Advances the record to a tick and shows the slot that it has come to: four cells, one a core. Refusals 12 and 15
- * leave the record as it was and show four 0 cells. The ticks may wrap from 4294967295 to 0. */
+ * leave the record as it was and write four 0 cells. The ticks may wrap from 4294967295 to 0. After missed slots the
+ * player stands in the right slot; what the cells of those slots should have done is not made up for. The record is
+ * spoilt if h, m, n, position or age is out of range; a changed cell, offset or last tick is not seen, but a check can
+ * be asked about player.table. Stack: 272. */
 uint64_t xiphomera_step(xiphomera_player *player, uint32_t tick, uint8_t cells[4]);
 
 /* ---- The search and the checker */
 
 /* Searches a table, with engine 0 (plain) or 1 (quick) and at most `limit` tries. Unless it is refused (1 to 10), the
- * first H x m cells of the buffer are the table found, or 0; the others are not touched. */
+ * first H x m cells of the buffer are the table found, or 0; the others are not touched. Stack: 73,840 and 144 a cell,
+ * so at most 663,392; 864 if refused by 1 to 7. */
 uint64_t xiphomera_search(const xiphomera_task *tasks, size_t count, uint32_t cores, uint32_t engine, uint32_t limit,
                           uint8_t *table, size_t table_length);
 
-/* Checks a table: class x 2^48 + a x 2^32 + b x 2^16 + c. */
+/* Checks a table: class x 2^48 + a x 2^32 + b x 2^16 + c; 0 if it is valid. Stack: at most 33,824. */
 uint64_t xiphomera_check(const xiphomera_task *tasks, size_t count, uint32_t cores, const uint8_t *table,
                          size_t table_length);
 
@@ -106,7 +118,7 @@ static inline unsigned xiphomera_c(uint64_t answer) { return (uint16_t)answer; }
 #define XIPHOMERA_LONGEST_ANSWER 15376
 
 /* Writes the text of the answer to the text of a problem and gives its bytes; gives 0 and writes nothing if `out` is
- * shorter than the longest answer. */
+ * shorter than the longest answer. Stack: at most 667,992; 4,896 if the file is refused. */
 size_t xiphomera_plan_text(const uint8_t *text, size_t text_length, uint8_t *out, size_t out_length);
 
 #ifdef __cplusplus
