@@ -27,10 +27,10 @@ module _ {rank : ℕ → ℕ} where
   spend-right c (nowhere h) = nowhere h
 
   -- a test before the answer is a condition on the tables
-  gate-right : {G : List ℕ → Type 0} (b : Bool) {r : Result} → Right rank G r → Right rank (λ s. T b × G s) (gated b r)
-  gate-right true (first (g, h)) = first ((tt, g), λ t x. h t (x .1))
-  gate-right true (nowhere h) = nowhere (λ t x. h t (x .1))
-  gate-right false h = nowhere (λ t x. x .0)
+  gated-right : {G : List ℕ → Type 0} (b : Bool) {r : Result} → Right rank G r → Right rank (λ s. T b × G s) (gated b r)
+  gated-right true (first (g, h)) = first ((tt, g), λ t x. h t (x .1))
+  gated-right true (nowhere h) = nowhere (λ t x. h t (x .1))
+  gated-right false h = nowhere (λ t x. x .0)
 
   -- an answer that is right for G is right for what allows the same tables
   pub right-same : {G H : List ℕ → Type 0} {r : Result} → ((s : List ℕ) → G s → H s) → ((s : List ℕ) → H s → G s) → Right rank G r → Right rank H r
@@ -60,6 +60,6 @@ module _ {rank : ℕ → ℕ} where
   -- the walk's verdict is right: sound, complete and first
   pub walk-right : (R : Rule) {vs : List ℕ} → Rising rank vs → (l : ℕ) (p : List ℕ) → Right rank (Clean R vs l p) (walk R vs l p)
   unfolding walk
-  walk-right R up zero p = gate-right (R .goesOn p) (first (empty, λ t x. elim x [ empty ↦ λ b. b ]))
-  walk-right R up (suc l) p = gate-right (R .goesOn p) (tryAll-right up
-      (λ v. gate-right (R .tried p v) (spend-right (R .cost p v) (walk-right R up l (p ++ v ∷ [])))))
+  walk-right R up zero p = gated-right (R .goesOn p) (first (empty, λ t x. elim x [ empty ↦ λ b. b ]))
+  walk-right R up (suc l) p = gated-right (R .goesOn p) (tryAll-right up
+      (λ v. gated-right (R .tried p v) (spend-right (R .cost p v) (walk-right R up l (p ++ v ∷ [])))))

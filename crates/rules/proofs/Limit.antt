@@ -48,9 +48,9 @@ module _ {b : ℕ} where
   none-meets = record { at = λ u l. rw add-zero (sym (within b (none u) l)) }
 
   -- a test
-  gate-meets : (x : Bool) {f : ℕ → Outcome} {r : Result} → Meets b f r → Meets b (bgate x f) (gated x r)
-  gate-meets true h = h
-  gate-meets false h = none-meets
+  gated-meets : (x : Bool) {f : ℕ → Outcome} {r : Result} → Meets b f r → Meets b (bgate x f) (gated x r)
+  gated-meets true h = h
+  gated-meets false h = none-meets
 
   -- tries that are held to the limit
   allow-meets : (c : ℕ) {f : ℕ → Outcome} {r : Result} → Meets b f r → Meets b (λ u. allow (leb (u + c) b) b (u + c) f) (spend c r)
@@ -81,9 +81,9 @@ module _ {b : ℕ} where
   -- the walk under the limit, with tries used before it
   walk-meets : (R : Rule) (vs : List ℕ) (l : ℕ) (p : List ℕ) → Meets b (bwalk b R vs l p) (walk R vs l p)
   unfolding walk bwalk
-  walk-meets R vs zero p = gate-meets (R .goesOn p) (found-meets [])
-  walk-meets R vs (suc l) p = gate-meets (R .goesOn p) (tryAll-meets vs
-      (λ v. gate-meets (R .tried p v) (allow-meets (R .cost p v) (walk-meets R vs l (p ++ v ∷ [])))))
+  walk-meets R vs zero p = gated-meets (R .goesOn p) (found-meets [])
+  walk-meets R vs (suc l) p = gated-meets (R .goesOn p) (tryAll-meets vs
+      (λ v. gated-meets (R .tried p v) (allow-meets (R .cost p v) (walk-meets R vs l (p ++ v ∷ [])))))
 
 -- with u tries used before it, the walk under a limit gives what the limit makes of u and the walk's tries
 pub bwalk-from : (b : ℕ) (R : Rule) (vs : List ℕ) (l : ℕ) (p : List ℕ) (u : ℕ) → u ≤ b → bwalk b R vs l p u ≡ limited b (spend u (walk R vs l p))

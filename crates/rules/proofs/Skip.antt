@@ -25,15 +25,15 @@ spend-follows l (both-found h) = both-found (add-le-add l h)
 spend-follows l (hidden h) = hidden h
 
 -- a stricter test on the one side
-gate-follows : {Q : List ℕ → Type 0} (b b' : Bool) {r r' : Result} → (T b' → T b) → Follows Q r r' → Follows (λ s. T b' × Q s) (gated b r) (gated b' r')
-gate-follows true true i (both-none h) = both-none h
-gate-follows true true i (both-found h) = both-found h
-gate-follows true true i (hidden h) = hidden (λ x. h (x .1))
-gate-follows true false i (both-none h) = both-none zero-le
-gate-follows true false i (both-found h) = hidden (λ x. x .0)
-gate-follows true false i (hidden h) = hidden (λ x. x .0)
-gate-follows false true i f = absurd (i tt)
-gate-follows false false i f = both-none zero-le
+gated-follows : {Q : List ℕ → Type 0} (b b' : Bool) {r r' : Result} → (T b' → T b) → Follows Q r r' → Follows (λ s. T b' × Q s) (gated b r) (gated b' r')
+gated-follows true true i (both-none h) = both-none h
+gated-follows true true i (both-found h) = both-found h
+gated-follows true true i (hidden h) = hidden (λ x. h (x .1))
+gated-follows true false i (both-none h) = both-none zero-le
+gated-follows true false i (both-found h) = hidden (λ x. x .0)
+gated-follows true false i (hidden h) = hidden (λ x. x .0)
+gated-follows false true i f = absurd (i tt)
+gated-follows false false i f = both-none zero-le
 
 -- the cells below the first
 tail : {Q : ℕ → List ℕ → Type 0} {v : ℕ} {vs s : List ℕ} → Starts vs Q (v ∷ s) → Q v s
@@ -55,9 +55,9 @@ tryAll-follows (w ∷ ws) h = orElse-follows w (h w) (tryAll-follows ws h)
 -- the walk by the stricter rule agrees, unless the other found a table that the stricter rule does not let pass
 walk-follows : {R' R : Rule} → Stricter R' R → (vs : List ℕ) (l : ℕ) (p : List ℕ) → Follows (Clean R' vs l p) (walk R vs l p) (walk R' vs l p)
 unfolding walk
-walk-follows {R'} {R} st vs zero p = gate-follows (R .goesOn p) (R' .goesOn p) (st .goesOn p) (both-found zero-le)
-walk-follows {R'} {R} st vs (suc l) p = gate-follows (R .goesOn p) (R' .goesOn p) (st .goesOn p) (tryAll-follows vs
-    (λ v. gate-follows (R .tried p v) (R' .tried p v) (st .tried p v) (spend-follows (st .cost p v) (walk-follows st vs l (p ++ v ∷ [])))))
+walk-follows {R'} {R} st vs zero p = gated-follows (R .goesOn p) (R' .goesOn p) (st .goesOn p) (both-found zero-le)
+walk-follows {R'} {R} st vs (suc l) p = gated-follows (R .goesOn p) (R' .goesOn p) (st .goesOn p) (tryAll-follows vs
+    (λ v. gated-follows (R .tried p v) (R' .tried p v) (st .tried p v) (spend-follows (st .cost p v) (walk-follows st vs l (p ++ v ∷ [])))))
 
 -- a right answer that is not hidden is given by the one who follows
 follows-quicker : {rank : ℕ → ℕ} {G Q : List ℕ → Type 0} {r r' : Result} → ((s : List ℕ) → First rank G s → Q s)

@@ -27,7 +27,7 @@ use Rattle.rules.specs.Search.{walked, searchTold}
 use Rattle.grid.specs.Grid.{coresOn, setsOn}
 use Rattle.walk.specs.Machine.{End, Found, NoneFound, Stopped, walkNumber, State, walkOn, firstOn, cellsLeft, full, Ran}
 use Rattle.grid.specs.GridFor.{counterOf, GridFor, Lefts}
-use Rattle.walk.proofs.TurnLaws.{packed-nothing, packed-found, packed-stopped}
+use Rattle.walk.proofs.TurnLaws.{number-none, number-found, number-stopped}
 use Rattle.walk.proofs.RefineLaws.{toldAt, Shows, shows-same, walk-limited}
 use Rattle.search.specs.declared.Answer.{Answer}
 use Rattle.fill.specs.Grid.{gridOf}
@@ -85,11 +85,11 @@ module _ (u b : ℕ) (r : Result) where
 
 -- ---- the walk's number
 -- the tries that it has
-packed-tries : (e : End) (k r : ℕ) → r ≡ walkNumber e k → k < 4294967296 → r % 4294967296 ≡ k
+number-tries : (e : End) (k r : ℕ) → r ≡ walkNumber e k → k < 4294967296 → r % 4294967296 ≡ k
 unfolding walkNumber
-packed-tries Found k r h l = omega arith
-packed-tries NoneFound k r h l = omega arith
-packed-tries Stopped k r h l = omega arith
+number-tries Found k r h l = omega arith
+number-tries NoneFound k r h l = omega arith
+number-tries Stopped k r h l = omega arith
 
 -- the tries of what an end tells
 told-used : (e : End) (n c : ℕ) (t : List ℕ) (k : ℕ) → used (toldAt e n c t k) ≡ k
@@ -103,17 +103,17 @@ module _ (u w : ℕ) where
   -- nothing
   pub tells-none : w < 4294967296 → (e : End) (k : ℕ) → w ≡ walkNumber e k → k < 4294967296 → record { verdict = 13; tries = w % 4294967296 - u } ≡ walkAnswer e k u
   unfolding verdictOf
-  tells-none small e k h l = rw (packed-nothing e k w h small .0) (ap (λ k. walkAnswer NoneFound k u) (packed-tries e k w h l))
+  tells-none small e k h l = rw (number-none e k w h small .0) (ap (λ k. walkAnswer NoneFound k u) (number-tries e k w h l))
 
   -- a table
   pub tells-found : 4294967296 ≤ w → w < 8589934592 → (e : End) (k : ℕ) → w ≡ walkNumber e k → k < 4294967296 → record { verdict = 0; tries = w % 4294967296 - u } ≡ walkAnswer e k u
   unfolding verdictOf
-  tells-found big small e k h l = rw (packed-found e k w h l big small .0) (ap (λ k. walkAnswer Found k u) (packed-tries e k w h l))
+  tells-found big small e k h l = rw (number-found e k w h l big small .0) (ap (λ k. walkAnswer Found k u) (number-tries e k w h l))
 
   -- the limit
   pub tells-stopped : 8589934592 ≤ w → (e : End) (k : ℕ) → w ≡ walkNumber e k → k < 4294967296 → record { verdict = 14; tries = w % 4294967296 - u } ≡ walkAnswer e k u
   unfolding verdictOf
-  tells-stopped big e k h l = rw (packed-stopped e k w h l big .0) (ap (λ k. walkAnswer Stopped k u) (packed-tries e k w h l))
+  tells-stopped big e k h l = rw (number-stopped e k w h l big .0) (ap (λ k. walkAnswer Stopped k u) (number-tries e k w h l))
 
 -- the first n cells 0
 cleared : (n : ℕ) (buffer : List ℕ) → n ≤ length buffer → filled buffer 0 n (λ _. 0) ≡ over (replicate n 0) buffer
@@ -205,7 +205,7 @@ module _ (m : ℕ) (list : TaskList) (e b L : ℕ) (sound : IsSound m (rows list
   module _ (r : ℕ) (t l : List ℕ) (ran : Ran grid 0 (setsOn grid left 0) (replicate 4096 0) left (full - b) r t l) where
     -- it has counted up from there
     pub counted-up : full - b ≤ r % 4294967296
-    counted-up = omega (arith, packed-tries (end .end) (end .tries) r (ran .leaves .answer) (omega (arith, ran .leaves .most)), more)
+    counted-up = omega (arith, number-tries (end .end) (end .tries) r (ran .leaves .answer) (omega (arith, ran .leaves .most)), more)
       where
         more : full - b ≤ end .tries
         more = subst (λ k. full - b ≤ k) (ap used (sym (shows .answer)) ∙ told-used (end .end) _ 0 (end .table) (end .tries))

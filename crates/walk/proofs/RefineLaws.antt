@@ -30,7 +30,7 @@ use Rattle.sets.specs.Sets.{has, without}
 use Rattle.grid.specs.Grid.{counterOn, rateOn, evenOn, coresOn, slotsOn, setsOn, floorOn, allSettledOn}
 use Rattle.walk.specs.Machine.{End, Found, NoneFound, Stopped, State, state, Onward, idleLast, placed, tryFrom, afterCell, walkOn}
 use Rattle.grid.specs.GridFor.{Small, GridFor, Lefts}
-use Rattle.walk.proofs.TurnLaws.{or-else-stays, skip, barred-by-B, stop, tried, back}
+use Rattle.walk.proofs.TurnLaws.{ended-stays, skip, barred-by-B, stop, tried, back}
 use Rattle.grid.proofs.GridForLaws.{Sets, sets-same, all-settled-is, settled-within, open-tells, lefts-idle, lefts-put, sets-idle, sets-put, sets-start}
 use Rattle.walk.proofs.ObeyLaws.{cost-one, goes-prefix, task-tried, idle-tried}
 
@@ -340,7 +340,7 @@ module _ {P : Instance} (small : Small P) (e b : ℕ) (grid : List ℕ) (ready :
                 (ih (r .table) (barred + evenOn grid v) (r .tries) (before-prefix (cell-in stands) t₀ l tells-below cell-is prefix-is long-is room others)
                 (tells-below .long ∙ long-is) one-more (tells-below .most)))
                 (λ w. shows-same {s = r}
-                (tried grid b first slot core sets next j (floorOn grid t₀ first core) t l v barred u p (leb-true _ _ q) z r refl ∙ or-else-stays (r .end) r _ w)
+                (tried grid b first slot core sets next j (floorOn grid t₀ first core) t l v barred u p (leb-true _ _ q) z r refl ∙ ended-stays (r .end) r _ w)
                 (ap (λ a. bnext (suc v) a others) value-is)
                 (below-ended (cell-in stands) t₀ l tells-below cell-is prefix-is long-is room others w))
 

@@ -44,37 +44,37 @@ apart : _≡_ {A = Bool} true false → ⊥
 apart e = let y : _≡_ {A = ℕ} 0 1 = cc in omega arith
 
 -- a walk that has ended stays as it is
-pub or-else-stays : (e : End) (r : State) (k : State → State) → (e ≡ NoneFound → ⊥) → unlessEnded e r k ≡ r
-or-else-stays Found r k x = refl
-or-else-stays NoneFound r k x = absurd (x refl)
-or-else-stays Stopped r k x = refl
+pub ended-stays : (e : End) (r : State) (k : State → State) → (e ≡ NoneFound → ⊥) → unlessEnded e r k ≡ r
+ended-stays Found r k x = refl
+ended-stays NoneFound r k x = absurd (x refl)
+ended-stays Stopped r k x = refl
 
 -- ---- an end and the tries in one number
 -- nothing is found
-pub packed-nothing : (e : End) (u r : ℕ) → r ≡ walkNumber e u → r < 4294967296 → (e ≡ NoneFound) × (u ≡ r)
+pub number-none : (e : End) (u r : ℕ) → r ≡ walkNumber e u → r < 4294967296 → (e ≡ NoneFound) × (u ≡ r)
 unfolding walkNumber
-packed-nothing Found u r h l = absurd (omega arith)
-packed-nothing NoneFound u r h l = (refl, sym h)
-packed-nothing Stopped u r h l = absurd (omega arith)
+number-none Found u r h l = absurd (omega arith)
+number-none NoneFound u r h l = (refl, sym h)
+number-none Stopped u r h l = absurd (omega arith)
 
 -- a table is found
-pub packed-found : (e : End) (u r : ℕ) → r ≡ walkNumber e u → u < 4294967296 → 4294967296 ≤ r → r < 8589934592 → (e ≡ Found) × (u ≡ r % 4294967296)
+pub number-found : (e : End) (u r : ℕ) → r ≡ walkNumber e u → u < 4294967296 → 4294967296 ≤ r → r < 8589934592 → (e ≡ Found) × (u ≡ r % 4294967296)
 unfolding walkNumber
-packed-found Found u r h s f l = (refl, omega arith)
-packed-found NoneFound u r h s f l = absurd (omega arith)
-packed-found Stopped u r h s f l = absurd (omega arith)
+number-found Found u r h s f l = (refl, omega arith)
+number-found NoneFound u r h s f l = absurd (omega arith)
+number-found Stopped u r h s f l = absurd (omega arith)
 
 -- the walk is stopped
-pub packed-stopped : (e : End) (u r : ℕ) → r ≡ walkNumber e u → u < 4294967296 → 8589934592 ≤ r → (e ≡ Stopped) × (u ≡ r % 4294967296)
+pub number-stopped : (e : End) (u r : ℕ) → r ≡ walkNumber e u → u < 4294967296 → 8589934592 ≤ r → (e ≡ Stopped) × (u ≡ r % 4294967296)
 unfolding walkNumber
-packed-stopped Found u r h s f = absurd (omega arith)
-packed-stopped NoneFound u r h s f = absurd (omega arith)
-packed-stopped Stopped u r h s f = (refl, omega arith)
+number-stopped Found u r h s f = absurd (omega arith)
+number-stopped NoneFound u r h s f = absurd (omega arith)
+number-stopped Stopped u r h s f = (refl, omega arith)
 
 -- the walk has ended
-packed-ended : (e : End) (u r : ℕ) → r ≡ walkNumber e u → u < 4294967296 → 4294967296 ≤ r → e ≡ NoneFound → ⊥
+number-ended : (e : End) (u r : ℕ) → r ≡ walkNumber e u → u < 4294967296 → 4294967296 ≤ r → e ≡ NoneFound → ⊥
 unfolding walkNumber
-packed-ended e u r h s f n = let same : r ≡ u = h ∙ ap (λ e. walkNumber e u) n in omega arith
+number-ended e u r h s f n = let same : r ≡ u = h ∙ ap (λ e. walkNumber e u) n in omega arith
 
 -- an equal state is told alike
 leaves-same : {limit : ℕ} {s s′ : State} {r : ℕ} {t l : List ℕ} → s ≡ s′ → Leaves limit s r t l → Leaves limit s′ r t l
@@ -118,7 +118,7 @@ module _ (grid : List ℕ) (limit first slot core sets : ℕ) (next : Onward) (j
 
         -- the walk ends below it
         stays : (r .end ≡ NoneFound → ⊥) → tryFrom grid limit first slot core sets next (suc j) floor t l v barred u ≡ r
-        stays x = tried ∙ or-else-stays (r .end) r _ x
+        stays x = tried ∙ ended-stays (r .end) r _ x
 
 -- values that may not stand there
 pub skips-to : (grid : List ℕ) (limit first slot core sets : ℕ) (next : Onward) (floor : ℕ) (t l : List ℕ) (barred u z j v : ℕ)
@@ -285,7 +285,7 @@ module _ {grid : List ℕ} {place sets first : ℕ} {t₀ l₀ : List ℕ} {trie
                 ∙ (λ i. still grid place sets (tasksOn grid - (task + 1)) floor (sym (ran .leaves .table) i) (given i) (task + 1) (barred + sym ee i) (nothing .1 i)))
               where
                 nothing : (below .end ≡ NoneFound) × (below .tries ≡ r)
-                nothing = packed-nothing (below .end) (below .tries) r (ran .leaves .answer) small-r
+                nothing = number-none (below .end) (below .tries) r (ran .leaves .answer) small-r
 
                 given : set (below .left) (counterOn grid (place / 4) task) (nth l (counterOn grid (place / 4) task)) ≡ l″
                 given = (λ i. set (sym (ran .leaves .left) i) (sym ek i) (nth l (sym ek i))) ∙ ap (set l′ k) (sym eh) ∙ sym eb
@@ -295,7 +295,7 @@ module _ {grid : List ℕ} {place sets first : ℕ} {t₀ l₀ : List ℕ} {trie
             unfolding below
             ends big = record {
               leaves = leaves-same (sym (values ∙ stays grid full (firstOn grid place) (place / 4) (place % 4) sets (onward grid place) (tasksOn grid - (task + 1)) floor t l task barred used may low q below went
-                  (packed-ended (below .end) (below .tries) r (ran .leaves .answer) (omega (arith, ran .leaves .most)) big))) (ran .leaves);
+                  (number-ended (below .end) (below .tries) r (ran .leaves .answer) (omega (arith, ran .leaves .most)) big))) (ran .leaves);
             }
 
       -- a value that the limit does not allow

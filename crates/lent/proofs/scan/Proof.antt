@@ -116,8 +116,8 @@ module _ {M : Type 1} (𝓤 : URA M) (H : Heap 𝓤) (A : Atoms 𝓤) (mem : Mem
   abbrev Begin : Contract 𝓤
   Begin = tripleOf 𝓤 H A begin.signature (begin.spec 𝓤 H A mem run)
 
-  abbrev GoesOn : Contract 𝓤
-  GoesOn = tripleOf 𝓤 H A more-to-scan.signature (more-to-scan.spec 𝓤 H A mem run)
+  abbrev MoreToScan : Contract 𝓤
+  MoreToScan = tripleOf 𝓤 H A more-to-scan.signature (more-to-scan.spec 𝓤 H A mem run)
 
   abbrev Take : Contract 𝓤
   Take = tripleOf 𝓤 H A take-task.signature (take-task.spec 𝓤 H A mem run)
@@ -172,10 +172,10 @@ module _ {M : Type 1} (𝓤 : URA M) (H : Heap 𝓤) (A : Atoms 𝓤) (W : Given
       qed W (‵ ftrue ∷ []) ∵ owned ! u8 (Is u8) (uint-makes 𝓤 H A W w8) m _ (refl, m-fits) $ fjoin ! $ owned ! usize (Is usize) (uint-makes 𝓤 H A W w64) n _ (refl, n-fits) $ fjoin ! $
       nothing ! $ join ! $ frame ! $ done !
 
-  abbrev to-more-to-scan : Lent → ℕ → GoesOn 𝓤 H A mem run .Ghost
+  abbrev to-more-to-scan : Lent → ℕ → MoreToScan 𝓤 H A mem run .Ghost
   to-more-to-scan r i = ((tt, tt, tt, (r, (i, (n, tt))), (lent-vals r, (vint w64 i ∷ [], (vint w64 n ∷ [], tt)))), tt)
 
-  goes-more-to-scan : (r : Lent) (i : ℕ) → Good r → i < 2 ^ 64 → n < 2 ^ 64 → ent 𝓤 (sem 𝓤 H A ftrue) (GoesOn 𝓤 H A mem run .pre (to-more-to-scan r i))
+  goes-more-to-scan : (r : Lent) (i : ℕ) → Good r → i < 2 ^ 64 → n < 2 ^ 64 → ent 𝓤 (sem 𝓤 H A ftrue) (MoreToScan 𝓤 H A mem run .pre (to-more-to-scan r i))
   goes-more-to-scan r i is i-fits n-fits =
       qed W (‵ ftrue ∷ []) ∵ owned ! usize (Is usize) (uint-makes 𝓤 H A W w64) n _ (refl, n-fits) $ fjoin ! $ owned ! usize (Is usize) (uint-makes 𝓤 H A W w64) i _ (refl, i-fits) $ fjoin ! $
       owned ! S.the-row (Is S.the-row) ((LL.makes S.the-type S′.the-plain) 𝓤 H A) r _ is $ fjoin ! $ nothing ! $ join ! $ frame ! $ done !
@@ -196,7 +196,7 @@ module _ {M : Type 1} (𝓤 : URA M) (H : Heap 𝓤) (A : Atoms 𝓤) (W : Given
   Nearer-wf = InvImage·wf (λ (u : Upto m ys). n - u .i) (Nat·lt-wfRel .wf)
 
   -- ---- the walk
-  module _ (𝓣 : Tables 𝓤 H) (gn : Room T.the-row n) (known-begin : Triple 𝓤 (𝓣 .C #lent·begin) (Begin 𝓤 H A mem run)) (known-more-to-scan : Triple 𝓤 (𝓣 .C #lent·more-to-scan) (GoesOn 𝓤 H A mem run)) (known-take : Triple 𝓤 (𝓣 .C #lent·take-task) (Take 𝓤 H A mem run)) where
+  module _ (𝓣 : Tables 𝓤 H) (gn : Room T.the-row n) (known-begin : Triple 𝓤 (𝓣 .C #lent·begin) (Begin 𝓤 H A mem run)) (known-more-to-scan : Triple 𝓤 (𝓣 .C #lent·more-to-scan) (MoreToScan 𝓤 H A mem run)) (known-take : Triple 𝓤 (𝓣 .C #lent·take-task) (Take 𝓤 H A mem run)) where
     abbrev C : Calls 𝓤 H
     C = 𝓣 .C
 
@@ -226,8 +226,8 @@ module _ {M : Type 1} (𝓤 : URA M) (H : Heap 𝓤) (A : Atoms 𝓤) (W : Given
       unfolding afterTurn
       turn-on u true e =
           assigns ! (of-opd ! (load ! (from ! (fld ! refl (stop !))) (look-in ! 18 (sub ! 1 refl (whole !))))) (from ! (stop !)) (init ! 6 refl (tt, record { fits = gn .0 })) $
-          nothing ! $ use1 W (raw (GoesOn 𝓤 H A mem run .pre (to-more-to-scan (u .lent) (u .i)))) (goes-more-to-scan (u .lent) (u .i) (u .is) (fits (u .i) (u .le)) (gn .0)) $
-          calls-at ! fm (GoesOn 𝓤 H A mem run) known-more-to-scan (to-more-to-scan (u .lent) (u .i)) (and-then ! (load ! (from ! (stop !)) (look ! 15 refl)) (and-then ! (load ! (from ! (stop !)) (look ! 13 refl)) (and-then ! (load ! (from ! (stop !)) (look ! 7 refl)) (no-more !)))) (λ v.
+          nothing ! $ use1 W (raw (MoreToScan 𝓤 H A mem run .pre (to-more-to-scan (u .lent) (u .i)))) (goes-more-to-scan (u .lent) (u .i) (u .is) (fits (u .i) (u .le)) (gn .0)) $
+          calls-at ! fm (MoreToScan 𝓤 H A mem run) known-more-to-scan (to-more-to-scan (u .lent) (u .i)) (and-then ! (load ! (from ! (stop !)) (look ! 15 refl)) (and-then ! (load ! (from ! (stop !)) (look ! 13 refl)) (and-then ! (load ! (from ! (stop !)) (look ! 7 refl)) (no-more !)))) (λ v.
           use1 W (later (some (λ (t : Bool). (‵ ftrue ⊛ ‵ (bool .own t (v ∷ []))) ⊛ raw (ensured 𝓤 H A more-to-scan.ended (more-to-scan.clauses 𝓤 H A mem run) tt (u .lent, (u .i, (n, tt))) tt t)))) (id⊢ 𝓤 _) $ await ! tt $ pick ! (λ t.
           split ! $ move ! (1 ∷ []) $ use1 W (raw (fact 𝓤 (t ≡ moreToScan (u .lent) (u .i) n))) (more-to-scan-is 𝓤 H A mem run (u .lent) (u .i) n t) $ heard ! (t ≡ moreToScan (u .lent) (u .i) n) (λ is-t. split ! $ drop ! $
           peeks ! bool (Is bool) (shows 𝓤 H A bool) t (v ∷ []) (λ is-v.
@@ -272,8 +272,8 @@ module _ {M : Type 1} (𝓤 : URA M) (H : Heap 𝓤) (A : Atoms 𝓤) (W : Given
           t₀ = getD ys (u .i) noTask
       turn-on u false e =
           assigns ! (of-opd ! (load ! (from ! (fld ! refl (stop !))) (look-in ! 18 (sub ! 1 refl (whole !))))) (from ! (stop !)) (init ! 6 refl (tt, record { fits = gn .0 })) $
-          nothing ! $ use1 W (raw (GoesOn 𝓤 H A mem run .pre (to-more-to-scan (u .lent) (u .i)))) (goes-more-to-scan (u .lent) (u .i) (u .is) (fits (u .i) (u .le)) (gn .0)) $
-          calls-at ! fm (GoesOn 𝓤 H A mem run) known-more-to-scan (to-more-to-scan (u .lent) (u .i)) (and-then ! (load ! (from ! (stop !)) (look ! 15 refl)) (and-then ! (load ! (from ! (stop !)) (look ! 13 refl)) (and-then ! (load ! (from ! (stop !)) (look ! 7 refl)) (no-more !)))) (λ v.
+          nothing ! $ use1 W (raw (MoreToScan 𝓤 H A mem run .pre (to-more-to-scan (u .lent) (u .i)))) (goes-more-to-scan (u .lent) (u .i) (u .is) (fits (u .i) (u .le)) (gn .0)) $
+          calls-at ! fm (MoreToScan 𝓤 H A mem run) known-more-to-scan (to-more-to-scan (u .lent) (u .i)) (and-then ! (load ! (from ! (stop !)) (look ! 15 refl)) (and-then ! (load ! (from ! (stop !)) (look ! 13 refl)) (and-then ! (load ! (from ! (stop !)) (look ! 7 refl)) (no-more !)))) (λ v.
           use1 W (later (some (λ (t : Bool). (‵ ftrue ⊛ ‵ (bool .own t (v ∷ []))) ⊛ raw (ensured 𝓤 H A more-to-scan.ended (more-to-scan.clauses 𝓤 H A mem run) tt (u .lent, (u .i, (n, tt))) tt t)))) (id⊢ 𝓤 _) $ await ! tt $ pick ! (λ t.
           split ! $ move ! (1 ∷ []) $ use1 W (raw (fact 𝓤 (t ≡ moreToScan (u .lent) (u .i) n))) (more-to-scan-is 𝓤 H A mem run (u .lent) (u .i) n t) $ heard ! (t ≡ moreToScan (u .lent) (u .i) n) (λ is-t. split ! $ drop ! $
           peeks ! bool (Is bool) (shows 𝓤 H A bool) t (v ∷ []) (λ is-v.
@@ -319,7 +319,7 @@ module _ {M : Type 1} (𝓤 : URA M) (H : Heap 𝓤) (A : Atoms 𝓤) (W : Given
         pass1 ! (init ! 16 refl (tt, (tt, (record { fits = gn .0 }, tt)))) $ pass1 ! (init ! 14 refl (tt, record { fits = m-fits })) $ pass0 ! $
         by ! (started l₀ l₁ l₂ l₃ l₄ l₅ l₆ l₇ l₈ l₉)))))))))))
 
-module _ {M : Type 1} (𝓤 : URA M) (H : Heap 𝓤) (A : Atoms 𝓤) (W : Given 𝓤 H A) (mem : Memory → SProp 𝓤) (run : Routine → Fun 𝓤) (𝓣 : Tables 𝓤 H) (known-begin : Triple 𝓤 (𝓣 .C #lent·begin) (Begin 𝓤 H A mem run)) (known-more-to-scan : Triple 𝓤 (𝓣 .C #lent·more-to-scan) (GoesOn 𝓤 H A mem run)) (known-take : Triple 𝓤 (𝓣 .C #lent·take-task) (Take 𝓤 H A mem run)) where
+module _ {M : Type 1} (𝓤 : URA M) (H : Heap 𝓤) (A : Atoms 𝓤) (W : Given 𝓤 H A) (mem : Memory → SProp 𝓤) (run : Routine → Fun 𝓤) (𝓣 : Tables 𝓤 H) (known-begin : Triple 𝓤 (𝓣 .C #lent·begin) (Begin 𝓤 H A mem run)) (known-more-to-scan : Triple 𝓤 (𝓣 .C #lent·more-to-scan) (MoreToScan 𝓤 H A mem run)) (known-take : Triple 𝓤 (𝓣 .C #lent·take-task) (Take 𝓤 H A mem run)) where
   f-walks : Walks 𝓤 H A f.ended stayed (WpFn 𝓤 H (𝓣 .C) (𝓣 .Λ) code.function) (f.clauses 𝓤 H A mem run)
   f-walks = walked 𝓤 H A f.ended stayed (f.clauses 𝓤 H A mem run) (WpFn 𝓤 H (𝓣 .C) (𝓣 .Λ) code.function) (λ κs. (slice-vals, (uint-vals w8, tt))) (λ κs. (shr-slice-tells (named 0) (κs .0) T.the-row, (uint-tells w8, tt)))
       (λ κs qs bounds a g are. via 𝓤 _ (fst∗ 𝓤 _ (emp 𝓤)) (walk 𝓤 H A W mem run (κs .0) (qs .0) (a .0 .ptr .0) (a .0 .ptr .1) (a .0 .name) (a .0 .now) (a .1 .0) (are .1 .0 .1) 𝓣 (are .0 .0 .1) known-begin known-more-to-scan known-take))
@@ -334,5 +334,5 @@ scan-spec 𝓤 H 𝓜 𝓖 𝓡 =
     (tables 𝓤 H 𝓜 𝓡 code.env .C) (tables 𝓤 H 𝓜 𝓡 code.env .Λ) #lent·scan code.function (code.unfolded 𝓤 H 𝓜 𝓡)
     (f-meets 𝓤 H (𝓖 .A) (givenOf 𝓤 H 𝓜 𝓖) (𝓜 .mem) (𝓡 .run) (tablesOf 𝓤 H 𝓜 (tables 𝓤 H 𝓜 𝓡 code.env))
     (cited 𝓤 H (Begin 𝓤 H (𝓖 .A) (𝓜 .mem) (𝓡 .run)) 𝓜 𝓡 code.env #lent·begin begin-def.routine code.calls-lent·begin (begin-thm.met 𝓤 H 𝓜 𝓖 𝓡))
-    (cited 𝓤 H (GoesOn 𝓤 H (𝓖 .A) (𝓜 .mem) (𝓡 .run)) 𝓜 𝓡 code.env #lent·more-to-scan more-to-scan-def.routine code.calls-lent·more-to-scan (more-to-scan-thm.met 𝓤 H 𝓜 𝓖 𝓡))
+    (cited 𝓤 H (MoreToScan 𝓤 H (𝓖 .A) (𝓜 .mem) (𝓡 .run)) 𝓜 𝓡 code.env #lent·more-to-scan more-to-scan-def.routine code.calls-lent·more-to-scan (more-to-scan-thm.met 𝓤 H 𝓜 𝓖 𝓡))
     (cited 𝓤 H (Take 𝓤 H (𝓖 .A) (𝓜 .mem) (𝓡 .run)) 𝓜 𝓡 code.env #lent·take-task take-task-def.routine code.calls-lent·take-task (take-task-thm.met 𝓤 H 𝓜 𝓖 𝓡)))

@@ -9,7 +9,7 @@ use lib.Seq.{slice, length-slice}
 use Rattle.laws.specs.Lists.{tabFrom}
 use Rattle.lines.specs.Lines.{bytesOf}
 use Rattle.lines.specs.Frame.{tenBytes}
-use Rattle.lines.proofs.LineLaws.{bytes-length, filled-more, filled-all, part-byte}
+use Rattle.lines.proofs.LineLaws.{bytes-length, ten-bytes-more, ten-bytes-all, part-byte}
 use Rattle.lines.proofs.frame_at.Statement.{statement}
 use Rattle.lines.proofs.frame_at.Tie as tie
 
@@ -28,7 +28,7 @@ loop-again c =
     let a = c .before .before .before .before in
     let k = c .before .before .loop in (
       omega arith,
-      filled-more (bytesOf (slice (a .args .from) (a .args .to) (a .args .text .now))) _ (k .k) _ (omega arith) (k .inv .1)
+      ten-bytes-more (bytesOf (slice (a .args .from) (a .args .to) (a .args .text .now))) _ (k .k) _ (omega arith) (k .inv .1)
           (part-byte (a .args .text .now) (a .args .from) (a .args .to) (k .k) _ (a .pre .1) (omega arith) (c .byte-at .ensures)),
     )
 
@@ -36,7 +36,7 @@ returns : tie.Need-returns Inv-loop μ-loop
 returns c =
     let a = c .before .before .before in
     let part = slice (a .args .from) (a .args .to) (a .args .text .now) in
-    filled-all (bytesOf part) _ (c .before .loop .k)
+    ten-bytes-all (bytesOf part) _ (c .before .loop .k)
     (omega (arith, bytes-length part, length-slice (a .args .from) (a .args .to) (a .args .text .now) (a .pre .1))) (c .before .loop .inv .1)
 
 pub frame-at-spec : {M : Type 1} → statement M
