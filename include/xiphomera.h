@@ -4,11 +4,12 @@
  * refused by 1, whatever they hold. A table comes as a pointer and its number of cells: H x m of them, slot by slot
  * from slot 0, core by core within a slot; a cell is 0 (idle) or a task number. Every call copes with every number
  * that it is handed, cuts none of them off, and keeps nothing of what it is lent. No pointer may be null, not even one
- * to 0 records or cells, and what is written to may not overlap with anything else that the call is lent.
+ * to 0 records or cells; what a pointer leads to is aligned as its type and was written before, if only by 0 (a static
+ * record is); and what is written to may not overlap with anything else that the call is lent.
  *
  * Tasks and cores count from 1, slots and jobs from 0: task k is tasks[k - 1]. H is the least common multiple of all
  * periods, m the number of cores. The rules are docs/RULES.md. The bytes of stack that a call takes stand with it, as
- * measured on x86-64; no call takes any other memory. */
+ * measured on x86-64 (riscv64 takes up to a third more); no call takes any other memory. */
 #ifndef XIPHOMERA_H
 #define XIPHOMERA_H
 
@@ -31,7 +32,7 @@ enum {
     XIPHOMERA_BAD_RATE = 7,      /* a rate not 0..15, or not 0 beyond the board's last core */
     XIPHOMERA_BAD_LENGTH = 8,    /* H, the least common multiple of all periods, over 1024 */
     XIPHOMERA_BAD_ENGINE = 9,    /* engine not 0 or 1 */
-    XIPHOMERA_BAD_BUFFER = 10,   /* table buffer shorter than H x m */
+    XIPHOMERA_BAD_BUFFER = 10,   /* table, or buffer for one, shorter than H x m */
     XIPHOMERA_INVALID = 11,      /* start: table not valid */
     XIPHOMERA_SPOILT = 12,       /* step: record spoilt */
     XIPHOMERA_NONE = 13,         /* search: no table of length H is valid */
@@ -82,17 +83,17 @@ uint64_t xiphomera_start(xiphomera_player *player, const xiphomera_task *tasks, 
                          const uint8_t *table, size_t table_length, uint32_t tick, uint8_t cells[4]);
 
 /* Advances the record to a tick and shows the slot that it has come to: four cells, one a core. Refusals 12 and 15
- * leave the record as it was and write four 0 cells. The ticks may wrap from 4294967295 to 0. After missed slots the
- * player stands in the right slot; what the cells of those slots should have done is not made up for. The record is
- * spoilt if h, m, n, position or age is out of range; a changed cell, offset or last tick is not seen, but a check can
- * be asked about player.table. Stack: 272. */
+ * leave the record as it was and write four 0 cells. The ticks may wrap from 4294967295 to 0; the same tick again shows
+ * the same slot again. After missed slots the player stands in the right slot; what the cells of those slots should
+ * have done is not made up for. The record is spoilt if h, m, n, position or age is out of range; a changed cell, offset
+ * or last tick is not seen, but a check can be asked about player.table. Stack: 272. */
 uint64_t xiphomera_step(xiphomera_player *player, uint32_t tick, uint8_t cells[4]);
 
 /* ---- The search and the checker */
 
 /* Searches a table, with engine 0 (plain) or 1 (quick) and at most `limit` tries. Unless it is refused (1 to 10), the
- * first H x m cells of the buffer are the table found, or 0; the others are not touched. Stack: 73,840 and 144 a cell,
- * so at most 663,392; 864 if refused by 1 to 7. */
+ * first H x m cells of the buffer are the table found, or 0; the others are not touched. Stack: 73,840 to 663,392,
+ * growing by 144 a cell that is not idle; 864 if refused by 1 to 7. */
 uint64_t xiphomera_search(const xiphomera_task *tasks, size_t count, uint32_t cores, uint32_t engine, uint32_t limit,
                           uint8_t *table, size_t table_length);
 
@@ -118,7 +119,7 @@ static inline unsigned xiphomera_c(uint64_t answer) { return (uint16_t)answer; }
 #define XIPHOMERA_LONGEST_ANSWER 15376
 
 /* Writes the text of the answer to the text of a problem and gives its bytes; gives 0 and writes nothing if `out` is
- * shorter than the longest answer. Stack: at most 667,992; 4,896 if the file is refused. */
+ * shorter than the longest answer. Stack: at most 667,992. */
 size_t xiphomera_plan_text(const uint8_t *text, size_t text_length, uint8_t *out, size_t out_length);
 
 #ifdef __cplusplus

@@ -99,14 +99,14 @@ fn valid(problem: &Problem, h: usize, table: &[u8]) -> bool {
 fn tried(problem: &Problem, h: usize, cells: &[u8]) -> bool {
     (0..cells.len()).all(|at| {
         let (before, value) = (&cells[..at], cells[at]);
-        closed(problem, h, before)
+        settled(problem, h, before)
             && permitted(problem, h, before, value)
             && !(problem.engine == 1 && left_out(problem, h, before, value))
     })
 }
 
 /// Whether the slot that these cells end, if they end one, leaves no work behind.
-fn closed(problem: &Problem, h: usize, before: &[u8]) -> bool {
+fn settled(problem: &Problem, h: usize, before: &[u8]) -> bool {
     let (slots, core) = (
         before.len() / problem.cores(),
         before.len() % problem.cores(),

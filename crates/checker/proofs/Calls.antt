@@ -22,24 +22,24 @@ verdictFrom (checked (inCell s j kind)) = Cell s j kind
 verdictFrom (checked (inJob i k kind)) = Job i k kind
 
 -- is the answer
-answer-of : (r : Verdict) → verdictFrom (checkedAs r) ≡ r
+verdict-back : (r : Verdict) → verdictFrom (checkedAs r) ≡ r
 unfolding checkedAs verdictFrom
-answer-of Valid = refl
-answer-of (Cell s j kind) = refl
-answer-of (Job i k kind) = refl
-answer-of (Refused number) = refl
+verdict-back Valid = refl
+verdict-back (Cell s j kind) = refl
+verdict-back (Job i k kind) = refl
+verdict-back (Refused number) = refl
 
 -- and all that can be told is told of an answer
-pub told-of : (x : Checked) → checkedAs (verdictFrom x) ≡ x
+pub checked-back : (x : Checked) → checkedAs (verdictFrom x) ≡ x
 unfolding checkedAs verdictFrom
-told-of (refused number) = refl
-told-of (checked noFault) = refl
-told-of (checked (inCell s j kind)) = refl
-told-of (checked (inJob i k kind)) = refl
+checked-back (refused number) = refl
+checked-back (checked noFault) = refl
+checked-back (checked (inCell s j kind)) = refl
+checked-back (checked (inJob i k kind)) = refl
 
 -- the rules' numbers tell the answers apart
 pub told-only : {x : Checked} (r r′ : Verdict) → checkedAs r ≡ x → checkedAs r′ ≡ x → r ≡ r′
-told-only r r′ = only-told checkedAs verdictFrom answer-of
+told-only r r′ = only-told checkedAs verdictFrom verdict-back
 
 -- a call of the checker for the tasks ts, however they are handed over, answers r
 abbrev pub Checks : List Task → ℕ → List ℕ → Verdict → Type 0

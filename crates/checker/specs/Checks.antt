@@ -19,7 +19,7 @@ use Rattle.checker.specs.declared.Verdict.the-variants.{Valid, Cell, Job
 use Rattle.checker.specs.declared.Effect.{Effect}
 use Rattle.checker.specs.declared.Effect.the-variants.{Nothing, Does, Faulty}
 
--- 6.5: the answer by the rules' numbers: valid; slot, core and kind; task, job and kind; or the refusal
+-- 6.2: the answer by the rules' numbers: valid; slot, core and kind; task, job and kind; or the refusal
 unfoldable pub checkedAs : Verdict → Checked
 checkedAs Valid = checked noFault
 checkedAs (Cell slot core kind) = checked (inCell slot core kind)

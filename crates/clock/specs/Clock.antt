@@ -34,7 +34,7 @@ abbrev pub advanced : ℕ → ℕ → ℕ → ℕ → ℕ → ℕ → Next
 advanced h position age m tick e =
     record { last = tick; missed = e - 1; at = (position + e) % h * m; position = record { 0 = (position + e) % h }; age = record { 0 = min (age + e) 1024 }; verdict = 0 }
 
--- the one or the other, by the refusal
+-- 7.10: the one or the other, by the refusal
 abbrev pub nextIf : ℕ → ℕ → ℕ → ℕ → Next → Next
 nextIf zero last position age x = x
 nextIf (suc r) last position age x = staysOf last position age (suc r)

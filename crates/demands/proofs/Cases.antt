@@ -105,8 +105,8 @@ P6 : List Task
 P6 = task 0 3 2 2 (2 ∷ 0 ∷ 0 ∷ 0 ∷ []) ∷ []
 
 -- the worked example
-figure : List Task
-figure = task 0 1 3 3 two ∷ task 0 2 3 3 two ∷ task 0 3 3 3 two ∷ []
+three : List Task
+three = task 0 1 3 3 two ∷ task 0 2 3 3 two ∷ task 0 3 3 3 two ∷ []
 
 -- four zero rates
 idle : List Task
@@ -129,7 +129,7 @@ questions =
     ∷ sounding 1 (periods (31 ∷ 32 ∷ [])) ∷ sounding 1 (periods (32 ∷ 33 ∷ []))
     ∷ sounding 1 (periods (1024 ∷ [])) ∷ sounding 1 (periods (1025 ∷ []))
     ∷ checking 1 P2 (1 ∷ 1 ∷ 1 ∷ []) ∷ checking 1 P2 (1 ∷ 0 ∷ 0 ∷ [])
-    ∷ searching 2 figure 1 1000 6
+    ∷ searching 2 three 1 1000 6
     ∷ searching 1 idle 0 1000 1 ∷ searching 1 idle 1 1000 1
     ∷ []
 
@@ -154,7 +154,7 @@ replies =
 
 -- P1 to P12, the worked example, and a task that no core can run
 cases : map answer questions ≡ replies
-unfolding answer questions replies P1 P2 P3 P4 P5 P6 figure idle periods task one two
+unfolding answer questions replies P1 P2 P3 P4 P5 P6 three idle periods task one two
 cases = refl
 
 -- ---- from text to text

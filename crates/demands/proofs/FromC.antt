@@ -26,7 +26,7 @@ use Rattle.checker.specs.declared.Verdict.the-variants.{Valid}
 use Rattle.checker.specs.Checks.{checkedAs}
 use Rattle.checker.specs.Faulty.{Wrong, unknown, closed, unrated, twice, WrongWork, too-little, too-much}
 use Rattle.checker.proofs.TellLaws.{check-refused}
-use Rattle.checker.proofs.Calls.{verdictFrom, told-of}
+use Rattle.checker.proofs.Calls.{verdictFrom, checked-back}
 use Rattle.checker.proofs.Demand2.{tells}
 use Rattle.clock.specs.declared.Shown.{Shown}
 use Rattle.clock.specs.declared.Next.{Next}
@@ -63,7 +63,7 @@ ReadsCheck r (checked (inJob task job kind)) = Parts r 2 task job kind
 ReadsCheck r (refused number) = Parts r 3 0 0 number
 
 -- a board's program: `xiphomera_start` with the lent tasks at the first tick, and n calls of `xiphomera_step`, each at the next tick on the record that the call before it left
-pub record Board (ts : List Task) (m : ℕ) (t : List ℕ) (p : Player) (tick : ℕ → ℕ) (n : ℕ) (answer : ℕ → ℕ) (cells : ℕ → List ℕ) (left : ℕ → Player) : Type 0 where
+pub record BoardRun (ts : List Task) (m : ℕ) (t : List ℕ) (p : Player) (tick : ℕ → ℕ) (n : ℕ) (answer : ℕ → ℕ) (cells : ℕ → List ℕ) (left : ℕ → Player) : Type 0 where
   -- a tick has 32 bits
   pub ticks : (s : ℕ) → s ≤ n → tick s < 2 ^ 32
   pub starts : XiphomeraStart p ts m t (tick 0) (answer 0) (cells 0) (left 0)
@@ -153,7 +153,7 @@ module _ (ts : List Task) (m : ℕ) (t : List ℕ) where
   -- a check is a call of `check`
   pub from-check : (r : ℕ) → XiphomeraCheck ts m t r → (v : Verdict) × Check ts m t v × ReadsCheck r (checkedAs v)
   from-check r call =
-      let v = told-of (check m ts t) in
+      let v = checked-back (check m ts t) in
       (verdictFrom (check m ts t), v, subst₂ ReadsCheck (sym call) (sym v) (check-reads (check m ts t) refl))
 
 -- and answers 0 exactly if `check` finds the table valid
@@ -197,7 +197,7 @@ from-step p tick r cells p′ call = (stepped p tick, (refl, call .1), step-read
 
 -- a board's program
 module _ (ts : List Task) (m : ℕ) (t : List ℕ) (p : Player) (tick : ℕ → ℕ) (n : ℕ) (answer : ℕ → ℕ) (cells : ℕ → List ℕ) (left : ℕ → Player)
-    (board : Board ts m t p tick n answer cells left) where
+    (board : BoardRun ts m t p tick n answer cells left) where
   -- what its calls show
   shown : ℕ → Shown
   shown zero = started m ts t (tick 0)

@@ -10,7 +10,7 @@ use Rattle.tasks.specs.declared.TaskList.{TaskList}
 use Rattle.fill.specs.Grid.{gridOf}
 use Rattle.fill.proofs.fill_grid as fill-grid
 
--- ---- fill_grid: it finds the grid b and leaves the grid b′
+-- ---- fill_grid: it finds the array b and leaves b′
 abbrev pub FillGrid : List ℕ → TaskList → ℕ → ℕ → Slots → List ℕ → Type 0
 FillGrid b list m e len b′ = b′ ≡ gridOf list m e (len .0) b
 

@@ -25,7 +25,7 @@ use Rattle.windows.specs.Answer.{inSlotAs, inSlot}
 use Rattle.tasks.proofs.WindowLaws.{pos-T, job-lt}
 use Rattle.windows.proofs.AnswerLaws.{told-open, told-closed}
 use Rattle.grid.specs.GridFor.{isQuick}
-use Rattle.fill.specs.Grid.{Fit, entryFor, entryAt, evenPair, rowEven, coresTwin, quickMark, fitMark, evens, twins, tasks, cores, fits, marks, ruleTest, sizeAt, markAt, endMark, unmarkedOf, gridOf}
+use Rattle.fill.specs.Grid.{Fit, entryFor, entryAt, evenPair, rowEven, coresTwin, quickMark, fitMark, evenMarks, twinMarks, taskCount, coreCount, fitMarks, marks, ruleTest, sizeAt, markAt, endMark, unmarkedOf, gridOf}
 
 -- ---- places stored one after the other
 module _ (s : List ℕ) (g : ℕ → ℕ) where
@@ -136,52 +136,52 @@ module _ (e : ℕ) (b : Bool) where
 -- ---- the marks, by their places
 module _ (n : ℕ) (rates : List ℕ) (x : ℕ) where
   -- rule A's test
-  pub test-even : x < twins → ruleTest n rates x ≡ rowEven rates (x - evens)
+  pub test-even : x < twinMarks → ruleTest n rates x ≡ rowEven rates (x - evenMarks)
   unfolding ruleTest
-  test-even l = rw (lt-ltb x twins l)
+  test-even l = rw (lt-ltb x twinMarks l)
 
   -- rule B's
-  pub test-twin : twins ≤ x → ruleTest n rates x ≡ coresTwin n rates ((x - twins) % 4) ((x - twins) / 4)
+  pub test-twin : twinMarks ≤ x → ruleTest n rates x ≡ coresTwin n rates ((x - twinMarks) % 4) ((x - twinMarks) / 4)
   unfolding ruleTest
-  test-twin l = rw (le-ltb x twins l)
+  test-twin l = rw (le-ltb x twinMarks l)
 
 -- three numbers
 module _ (n m L x : ℕ) where
   -- the tasks
-  pub size-tasks : x ≡ tasks → n ≡ sizeAt n m L x
+  pub size-tasks : x ≡ taskCount → n ≡ sizeAt n m L x
   unfolding sizeAt
   size-tasks z = rw z
 
   -- the cores
-  pub size-cores : x ≡ cores → m ≡ sizeAt n m L x
+  pub size-cores : x ≡ coreCount → m ≡ sizeAt n m L x
   unfolding sizeAt
   size-cores z = rw z
 
   -- the slots
-  pub size-slots : x ≢ tasks → x ≢ cores → L ≡ sizeAt n m L x
+  pub size-slots : x ≢ taskCount → x ≢ coreCount → L ≡ sizeAt n m L x
   unfolding sizeAt
-  size-slots a b = rw (ne-eqb x tasks a, ne-eqb x cores b)
+  size-slots a b = rw (ne-eqb x taskCount a, ne-eqb x coreCount b)
 
 module _ (n : ℕ) (rates : List ℕ) (m e L x : ℕ) where
   -- a rate
-  pub at-rate : x < evens → markAt n rates m e L x ≡ nth rates x
+  pub at-rate : x < evenMarks → markAt n rates m e L x ≡ nth rates x
   unfolding markAt
-  at-rate l = rw (lt-ltb x evens l)
+  at-rate l = rw (lt-ltb x evenMarks l)
 
   -- a mark of rule A or B
-  pub at-rule : evens ≤ x → x < tasks → markAt n rates m e L x ≡ quickMark e (ruleTest n rates x)
+  pub at-rule : evenMarks ≤ x → x < taskCount → markAt n rates m e L x ≡ quickMark e (ruleTest n rates x)
   unfolding markAt
-  at-rule k l = rw (le-ltb x evens k, lt-ltb x tasks l)
+  at-rule k l = rw (le-ltb x evenMarks k, lt-ltb x taskCount l)
 
   -- a number
-  pub at-size : tasks ≤ x → x < fits → markAt n rates m e L x ≡ sizeAt n m L x
+  pub at-size : taskCount ≤ x → x < fitMarks → markAt n rates m e L x ≡ sizeAt n m L x
   unfolding markAt
-  at-size k l = rw (le-ltb x evens (omega arith), le-ltb x tasks k, lt-ltb x fits l)
+  at-size k l = rw (le-ltb x evenMarks (omega arith), le-ltb x taskCount k, lt-ltb x fitMarks l)
 
   -- the cores on which a rate fits
-  pub at-fit : fits ≤ x → markAt n rates m e L x ≡ fitMark rates (x - fits)
+  pub at-fit : fitMarks ≤ x → markAt n rates m e L x ≡ fitMark rates (x - fitMarks)
   unfolding markAt
-  at-fit k = rw (le-ltb x evens (omega arith), le-ltb x tasks (omega arith), le-ltb x fits k)
+  at-fit k = rw (le-ltb x evenMarks (omega arith), le-ltb x taskCount (omega arith), le-ltb x fitMarks k)
 
 -- ---- the grid
 pub grid-filled : (list : TaskList) (m e L : ℕ) (s entries marked ends : List ℕ) → entries ≡ filled s 0 (L * 16) (entryAt list L)

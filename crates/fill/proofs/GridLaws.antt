@@ -30,7 +30,7 @@ use Rattle.sets.specs.Sets.{has}
 use Rattle.grid.specs.Grid.{coresOn, OnGrid}
 use Rattle.grid.specs.GridFor.{Small, entryOf, isQuick, GridFor}
 use Rattle.grid.proofs.GridForLaws.{test-same, counter-le}
-use Rattle.fill.specs.Grid.{Fit, entryFor, entryAt, evenPair, pairEven, rowEven, coresTwin, quickMark, fitMark, evens, twins, tasks, cores, slots, fits, marks, markAt, endMark, unmarkedOf, gridOf}
+use Rattle.fill.specs.Grid.{Fit, entryFor, entryAt, evenPair, pairEven, rowEven, coresTwin, quickMark, fitMark, evenMarks, twinMarks, taskCount, coreCount, slotCount, fitMarks, marks, markAt, endMark, unmarkedOf, gridOf}
 use Rattle.fill.proofs.FillLaws.{test-even, test-twin, size-tasks, size-cores, size-slots, at-rate, at-rule, at-size, at-fit}
 use Rattle.fill.proofs.FitLaws.{mark-has, up-to-15}
 
@@ -181,9 +181,9 @@ module _ {m : ℕ} (list : TaskList) (s : SoundList m (rows list)) where
     pub grid-for : GridFor (ownInstance m (rows list)) e (gridOf list m e (tableLength (rows list)) (replicate 17763 0))
     unfolding grid instanceOf quickMark
     grid-for = record {
-      slots = mark-at 16482 slots refl (omega arith) ∙ at-size _ _ _ _ _ slots (omega arith) (omega arith) ∙ sym (size-slots _ _ _ slots (omega arith) (omega arith));
-      cores = mark-at 16481 cores refl (omega arith) ∙ at-size _ _ _ _ _ cores (omega arith) (omega arith) ∙ sym (size-cores _ _ _ cores refl);
-      tasks = mark-at 16480 tasks refl (omega arith) ∙ at-size _ _ _ _ _ tasks (omega arith) (omega arith) ∙ sym (size-tasks _ _ _ tasks refl) ∙ sym (rows-length list);
+      slots = mark-at 16482 slotCount refl (omega arith) ∙ at-size _ _ _ _ _ slotCount (omega arith) (omega arith) ∙ sym (size-slots _ _ _ slotCount (omega arith) (omega arith));
+      cores = mark-at 16481 coreCount refl (omega arith) ∙ at-size _ _ _ _ _ coreCount (omega arith) (omega arith) ∙ sym (size-cores _ _ _ coreCount refl);
+      tasks = mark-at 16480 taskCount refl (omega arith) ∙ at-size _ _ _ _ _ taskCount (omega arith) (omega arith) ∙ sym (size-tasks _ _ _ taskCount refl) ∙ sym (rows-length list);
       entries = λ t v lt lv. let k = is-task v lv in
           at-entry list m e (tableLength (rows list)) (s .few-slots) (t * 16 + v) (omega (arith, rows-length list, s .few-tasks))
           ∙ entry-is list (tableLength (rows list)) t v (omega (arith, rows-length list, s .few-tasks)) (k .0)
@@ -194,16 +194,16 @@ module _ {m : ℕ} (list : TaskList) (s : SoundList m (rows list)) where
           mark-at (16384 + (v * 4 + j)) (v * 4 + j) refl (omega arith) ∙ at-rate _ _ _ _ _ _ (omega arith) ∙ rate-same v j lv few;
       fits = λ v j w lv lj. let few : j < 4 = omega (arith, s .few-cores) in let small : v < 16 = omega (arith, s .few-tasks) in
           let cap : min w 15 < 16 = omega (arith, min-le-right w 15) in
-          ap (λ x. has (x % 16) 0 j) (mark-at (16483 + (v * 16 + min w 15)) (fits + (v * 16 + min w 15)) (omega arith) (omega arith) ∙ at-fit _ _ _ _ _ _ (omega arith) ∙ ap (fitMark (list .rates)) (omega arith))
+          ap (λ x. has (x % 16) 0 j) (mark-at (16483 + (v * 16 + min w 15)) (fitMarks + (v * 16 + min w 15)) (omega arith) (omega arith) ∙ at-fit _ _ _ _ _ _ (omega arith) ∙ ap (fitMark (list .rates)) (omega arith))
           ∙ mark-has (list .rates) v (min w 15) j cap few
           ∙ ap (λ r. ltb 0 r && leb r (min w 15)) (rate-same v j lv few)
           ∙ ap (λ b. ltb 0 (rate (task (rows list) (suc v)) j) && b)
           (up-to-15 (rate (task (rows list) (suc v)) j) w (s .in-range (suc v) (omega arith) lv .rate-le j few));
       evens = λ v lv. let small : v < 16 = omega (arith, s .few-tasks) in
-          mark-at (16448 + v) (evens + v) (omega arith) (omega arith) ∙ at-rule _ _ _ _ _ _ (omega arith) (omega arith)
+          mark-at (16448 + v) (evenMarks + v) (omega arith) (omega arith) ∙ at-rule _ _ _ _ _ _ (omega arith) (omega arith)
           ∙ ap (λ b. gate (isQuick e && b) 1) (test-even _ _ _ (omega arith) ∙ ap (rowEven (list .rates)) (omega arith) ∙ even-same v lv);
-      twins = λ a j la lj. let few : a < 4 = omega (arith, s .few-cores) in let less : j < 4 = omega arith in let y-same : twins + (a * 4 + j) - twins ≡ a * 4 + j = omega arith in
-          mark-at (16464 + (a * 4 + j)) (twins + (a * 4 + j)) (omega arith) (omega arith) ∙ at-rule _ _ _ _ _ _ (omega arith) (omega arith)
+      twins = λ a j la lj. let few : a < 4 = omega (arith, s .few-cores) in let less : j < 4 = omega arith in let y-same : twinMarks + (a * 4 + j) - twinMarks ≡ a * 4 + j = omega arith in
+          mark-at (16464 + (a * 4 + j)) (twinMarks + (a * 4 + j)) (omega arith) (omega arith) ∙ at-rule _ _ _ _ _ _ (omega arith) (omega arith)
           ∙ ap (λ b. gate (isQuick e && b) 1) (test-twin _ _ _ (omega arith)
           ∙ ap (λ y. coresTwin (list .n) (list .rates) (y % 4) (y / 4)) y-same ∙ ap₂ (coresTwin (list .n) (list .rates)) (digits-mod a less) (digits-div a less) ∙ twin-same j a less few);
     }

@@ -62,23 +62,23 @@ fitMark rates x =
     bit 0 + 2 * bit 1 + 4 * bit 2 + 8 * bit 3
 
 -- where the parts between the entries and the marks of ends begin, counted from the first of them, the rates
-abbrev pub evens : ℕ
-evens = 64
+abbrev pub evenMarks : ℕ
+evenMarks = 64
 
-abbrev pub twins : ℕ
-twins = 80
+abbrev pub twinMarks : ℕ
+twinMarks = 80
 
-abbrev pub tasks : ℕ
-tasks = 96
+abbrev pub taskCount : ℕ
+taskCount = 96
 
-abbrev pub cores : ℕ
-cores = 97
+abbrev pub coreCount : ℕ
+coreCount = 97
 
-abbrev pub slots : ℕ
-slots = 98
+abbrev pub slotCount : ℕ
+slotCount = 98
 
-abbrev pub fits : ℕ
-fits = 99
+abbrev pub fitMarks : ℕ
+fitMarks = 99
 
 -- and how many places they have
 abbrev pub marks : ℕ
@@ -86,19 +86,19 @@ marks = 355
 
 -- the test for the mark at place x: rule A's of a task, and then rule B's of two cores
 unfoldable pub ruleTest : ℕ → List ℕ → ℕ → Bool
-ruleTest n rates x = cond (ltb x twins) (rowEven rates (x - evens)) (coresTwin n rates ((x - twins) % 4) ((x - twins) / 4))
+ruleTest n rates x = cond (ltb x twinMarks) (rowEven rates (x - evenMarks)) (coresTwin n rates ((x - twinMarks) % 4) ((x - twinMarks) / 4))
 
 -- the number at place x: the tasks, the cores, the slots
 unfoldable pub sizeAt : ℕ → ℕ → ℕ → ℕ → ℕ
-sizeAt n m L x = cond (eqb x tasks) n (cond (eqb x cores) m L)
+sizeAt n m L x = cond (eqb x taskCount) n (cond (eqb x coreCount) m L)
 
 -- what stands at place x: the rates, the marks of rules A and B, the three numbers, the cores on which rates fit
 unfoldable pub markAt : ℕ → List ℕ → ℕ → ℕ → ℕ → ℕ → ℕ
 markAt n rates m e L x =
-    cond (ltb x evens) (nth rates x)
-    (cond (ltb x tasks) (quickMark e (ruleTest n rates x))
-    (cond (ltb x fits) (sizeAt n m L x)
-    (fitMark rates (x - fits))))
+    cond (ltb x evenMarks) (nth rates x)
+    (cond (ltb x taskCount) (quickMark e (ruleTest n rates x))
+    (cond (ltb x fitMarks) (sizeAt n m L x)
+    (fitMark rates (x - fitMarks))))
 
 -- the first task whose job has its highest-numbered slot in this slot, by its entry; n if there is none
 unfoldable pub endMark : List ℕ → ℕ → ℕ → ℕ

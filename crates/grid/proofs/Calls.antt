@@ -68,7 +68,7 @@ floor-says κs grid table first core grid′ table′ first′ core′ r M 𝓤 
 pub floor-only : (grid t : List ℕ) (first core r r′ : ℕ) → Floor grid t first core r → Floor grid t first core r′ → r ≡ r′
 floor-only grid t first core r r′ = only
 
--- ---- closes
+-- ---- all_settled
 abbrev pub AllSettled : List ℕ → List ℕ → ℕ → Bool → Type 0
 AllSettled grid l slot r = r ≡ allSettledOn grid l slot
 

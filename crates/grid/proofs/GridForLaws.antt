@@ -39,7 +39,7 @@ test-same false false f g = refl
 
 -- ---- the entries of the grid
 module _ (P : Instance) (i t : ℕ) where
-  -- of an open slot
+  -- where the task is open
   entry-open : T (P .opens i t) → entryOf P i t ≡ 2 * counterOf i (P .job i t) + gate (eqb (jobEnd P i (P .job i t)) t) 1
   unfolding entryOf
   entry-open o = go (P .opens i t) o
@@ -103,7 +103,7 @@ sets-same {P} {slot} {c = c} {f} {g} h holds = record {
 
 module _ {P : Instance} {e : ℕ} {grid : List ℕ} (small : Small P) (ready : GridFor P e grid) where
   module _ {slot v : ℕ} (ls : slot < P .slots) (lv : v < P .tasks) where
-    -- the counter of an open slot is its job's
+    -- where the task is open, the counter is its job's
     pub counter-open : T (P .opens (suc v) slot) → counterOn grid slot v ≡ counterOf (suc v) (P .job (suc v) slot)
     counter-open o = omega (arith, ready .entries slot v ls lv ∙ entry-open P (suc v) slot o, gate-one (eqb (jobEnd P (suc v) (P .job (suc v) slot)) slot))
 
@@ -115,7 +115,7 @@ module _ {P : Instance} {e : ℕ} {grid : List ℕ} (small : Small P) (ready : G
     pub counter-closed : (T (P .opens (suc v) slot) → ⊥) → (counterOn grid slot v ≡ closedCounter) × (entryOn grid slot v % 2 ≡ 0)
     counter-closed x = omega (arith, ready .entries slot v ls lv ∙ entry-closed P (suc v) slot x)
 
-    -- the job of an open slot is one of the task's
+    -- where the task is open, the job is one of its own
     pub job-in : P .job (suc v) slot < P .jobs (suc v)
     job-in = small .regular .job-there (suc v) slot (omega arith) lv ls
 
@@ -127,7 +127,7 @@ module _ {P : Instance} {e : ℕ} {grid : List ℕ} (small : Small P) (ready : G
     pub counter-le : counterOn grid slot v ≤ closedCounter
     counter-le = test-cases (P .opens (suc v) slot) (λ o. omega (arith, counter-in o)) (λ x. omega (arith, counter-closed x .0))
 
-    -- the work left of the job of an open slot
+    -- where the task is open, the work left of the job
     pub left-open : (c : ℕ) (f : ℕ → ℕ) (l : List ℕ) → Lefts P c f l → T (P .opens (suc v) slot)
         → nth l (counterOn grid slot v) ≡ workLeft P c f (suc v) (P .job (suc v) slot)
     left-open c f l lefts o = ap (nth l) (counter-open o) ∙ lefts .counters (suc v) (P .job (suc v) slot) (omega arith) lv job-in
@@ -220,7 +220,7 @@ module _ {P : Instance} {e : ℕ} {grid : List ℕ} (small : Small P) (ready : G
     }
 
     -- a task takes its rate off the work left of its job
-    module _ (t l : List ℕ) (room : first + core < length t) (wide : length l ≡ 16385) (lefts : Lefts P (first + core) (nth t) l) (v : ℕ) (lv : v < P .tasks) (o : T (P .opens (suc v) slot)) where
+    module _ (t l : List ℕ) (room : first + core < length t) (sized : length l ≡ 16385) (lefts : Lefts P (first + core) (nth t) l) (v : ℕ) (lv : v < P .tasks) (o : T (P .opens (suc v) slot)) where
       -- the counter of the task's job
       counter-is : counterOn grid slot v ≡ P .job (suc v) slot * 16 + v
       counter-is = counter-open ls lv o

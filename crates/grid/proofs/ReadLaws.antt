@@ -56,9 +56,9 @@ module _ (grid l : List ℕ) (slot : ℕ) where
 -- ---- one job at the slot's end
 module _ (grid l : List ℕ) (slot v : ℕ) where
   -- it does not end here
-  pub settled-open : entryOn grid slot v % 2 ≡ 0 → true ≡ settledOn grid l slot v
+  pub settled-later : entryOn grid slot v % 2 ≡ 0 → true ≡ settledOn grid l slot v
   unfolding settledOn
-  settled-open e = rw (eq-eqb (entryOn grid slot v % 2) 0 e)
+  settled-later e = rw (eq-eqb (entryOn grid slot v % 2) 0 e)
 
   -- it does
   pub settled-end : (k : ℕ) → entryOn grid slot v % 2 ≢ 0 → k ≡ counterOn grid slot v → eqb (nth l k) 0 ≡ settledOn grid l slot v

@@ -12,7 +12,7 @@ use Rattle.tasks.specs.Task.{rows, listOf, added}
 use Rattle.tasks.specs.Refusal.{within, unless, taskRefusal, listRefusal}
 use Rattle.lent.specs.declared.Lent.{Lent}
 
--- 1 no task or over 16; 2 cores not 1..4; then what comes after
+-- 1.1, 5.4: 1 no task or over 16; 2 cores not 1..4; then what comes after
 abbrev pub countRefusal : ℕ → ℕ → ℕ → ℕ
 countRefusal n m next = unless (within 1 16 n) 1 (unless (within 1 4 m) 2 next)
 

@@ -21,11 +21,11 @@ sizeIf false h m = record { slots = 0; m = 0 }
 unfoldable pub sizeOf : ℕ → List Task → Size
 sizeOf m ts = sizeIf (eqb (refusal m ts) 0) (tableLength ts) m
 
--- 8.11: 05 with the search's verdict and tries, the 06 lines for verdict 0, and 07
+-- 8.12: 05 with the search's verdict and tries, the 06 lines for verdict 0, and 07
 unfoldable pub searchAnswer : ℕ → List Task → Searched → List ℕ
 searchAnswer m ts s = writeAnswer (s .verdict) (s .tries) (tableLength ts) m (s .buffer)
 
--- 8.13: a refusal, of the file too, stands in 05 as the verdict, with 0 tries; the search has room for the largest table
+-- 8.11, 8.13: a refusal, of the file too, stands in 05 as the verdict, with 0 tries; the search has room for the largest table
 unfoldable pub answerToRead : Read → List ℕ
 answerToRead (refused k) = writeAnswer k 0 0 0 []
 answerToRead (problem m ts e b) = searchAnswer m ts (search m ts e b (replicate 4096 0))

@@ -16,7 +16,7 @@ use Rattle.laws.proofs.SumLaws.{gate-ne, sum-ext, sum-gate, sum-nested, sum-sta
 use Rattle.tasks.specs.declared.Task.{Task}
 use Rattle.tasks.specs.Task.{rate, task}
 use Rattle.tasks.specs.Refusal.{tableLength}
-use Rattle.tasks.specs.Window.{isJobs, work, InWindow, Cyclic}
+use Rattle.tasks.specs.Window.{isJobs, doneIn, InWindow, Cyclic}
 use Rattle.tasks.specs.Instance.{instanceOf, ownInstance}
 use Rattle.tasks.proofs.WindowLaws.{work-at, open-window}
 use Rattle.tasks.proofs.SoundLaws.{SoundList, length-whole, sound-cyclic}
@@ -39,7 +39,7 @@ units m ts f i t = sum m (λ j. gate (eqb (f (t * m + j)) i) (rate (task ts i) j
 
 -- what a table's cells do for a job is what its slots do
 done-work : (L m : ℕ) (ts : List Task) (f : ℕ → ℕ) (i k : ℕ)
-    → done (instanceOf L m ts) (L * m) f i k ≡ work L (task ts i .offset .0) (task ts i .deadline .0) (task ts i .period .0) k (units m ts f i)
+    → done (instanceOf L m ts) (L * m) f i k ≡ doneIn L (task ts i .offset .0) (task ts i .deadline .0) (task ts i .period .0) k (units m ts f i)
 unfolding done share instanceOf isJobs
 done-work L m ts f i k =
     sym (sum-nested L m _)

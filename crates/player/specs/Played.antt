@@ -15,7 +15,7 @@ use Rattle.clock.specs.Clock.{shownCell}
 abbrev pub shownAs : ℕ → List Task → ℕ → ℕ → ℕ → ℕ
 shownAs m ts age j v = shownCell m (length ts) age (task ts v .offset .0) j v
 
--- 3.7, 7.11: the four cells shown at time t since the start
+-- 3.8, 7.11: the four cells shown at time t since the start
 abbrev pub shownAt : ℕ → List Task → List ℕ → ℕ → List ℕ
 shownAt m ts table t = tab 4 (λ j. shownAs m ts t j (nth table (t % tableLength ts * m + j)))
 

@@ -94,7 +94,7 @@ abbrev pub recordOr : ℕ → Player → Player → Player
 recordOr zero made p = made
 recordOr (suc r) made p = p
 
--- 7.3: the record after a start
+-- 5.8, 7.2: the record after a start
 unfoldable pub afterStart : ℕ → List Task → List ℕ → ℕ → Player → Player
 afterStart m ts t tick p = recordOr (startRefusal m ts t) (recordOf m ts t tick) p
 

@@ -39,7 +39,7 @@ settled P c f i k = imp (eqb (suc (jobEnd P i k) * P .cores) c) (eqb (workLeft P
 unfoldable pub allSettled : Instance → ℕ → (ℕ → ℕ) → Bool
 allSettled P c f = all (P .tasks) (λ i. all (P .jobs (suc i)) (settled P c f (suc i)))
 
--- 4.6: the plain walk (engine 0); one try is one permitted value put into one cell
+-- 4.6, 4.9: the plain walk (engine 0); one try is one permitted value put into one cell
 abbrev pub plain : Instance → Rule
 plain P = record { tried = λ p. permitted P (length p) (nth p); goesOn = λ p. allSettled P (length p) (nth p); cost = λ p v. 1 }
 

@@ -32,7 +32,7 @@ abbrev pub spend : ℕ → Result → Result
 spend c (found s k) = found s (c + k)
 spend c (none k) = none (c + k)
 
--- a result behind a test: none, at no try, where the test fails
+-- 4.8: a result behind a test: none, at no try, where the test fails
 abbrev pub gated : Bool → Result → Result
 gated true r = r
 gated false r = none 0

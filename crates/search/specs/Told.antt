@@ -31,7 +31,7 @@ pub record ListWalked (list : TaskList) (m e L u : ℕ) (t : List ℕ) (r : ℕ)
   pub left : List ℕ
   pub ran : Ran (gridOf list m e L (replicate 17763 0)) 0 (setsOn (gridOf list m e L (replicate 17763 0)) (leftOf list) 0) t (leftOf list) u r t′ left
 
--- the verdict of a walk that ends so
+-- 5.1, 5.2, 5.3: the verdict of a walk that ends so
 unfoldable pub verdictOf : End → ℕ
 verdictOf Found = 0
 verdictOf NoneFound = 13
@@ -45,11 +45,11 @@ walkAnswer e k u = record { verdict = verdictOf e; tries = k - u }
 unfoldable pub cellLeft : Bool → List ℕ → ℕ → ℕ
 cellLeft found t i = cond found (nth t i) 0
 
--- a refusal reports 0 tries
+-- 5.8: a refusal reports 0 tries
 abbrev pub refusedAnswer : ℕ → Answer
 refusedAnswer r = record { verdict = r; tries = 0 }
 
--- after 1 to 8: 9 engine not 0 or 1; 10 buffer without room for n cells
+-- 5.5: after 1 to 8: 9 engine not 0 or 1; 10 buffer without room for n cells
 unfoldable pub callRefusal : ℕ → ℕ → ℕ → ℕ
 callRefusal e room n = unless (leb e 1) 9 (unless (leb n room) 10 0)
 

@@ -8,7 +8,7 @@ use Rattle.tasks.specs.Instance.{Instance, jobSlot, jobEnd, Regular}
 use Rattle.tasks.proofs.WindowLaws.{highest-lt, highest-ge}
 
 module _ (P : Instance) (i : ℕ) where
-  -- an open slot is one of the slots of its job
+  -- a slot where the task is open is one of its job's
   pub job-slot : (k t : ℕ) → T (P .opens i t) → P .job i t ≡ k → T (jobSlot P i k t)
   job-slot k t o e = make-both (P .opens i t) (eqb (P .job i t) k) o (rw e (eqb-refl k))
 

@@ -35,7 +35,7 @@ workKind C d = unless (leb C d) 5 (unless (leb d C) 6 0)
 abbrev pub jobKind : Instance → (ℕ → ℕ) → ℕ → ℕ → ℕ
 jobKind P f i k = workKind (P .work i) (done P (cells P) f i k)
 
--- 6.5: what the checker tells: slot, core and kind, or task, job and kind; slots and jobs count from 0, cores and tasks from 1
+-- 6.2: what the checker tells: slot, core and kind, or task, job and kind; slots and jobs count from 0, cores and tasks from 1
 pub data Fault : Type 0 where
   noFault : Fault
   inCell : ℕ → ℕ → ℕ → Fault
@@ -68,7 +68,7 @@ pub data Checked : Type 0 where
   refused : ℕ → Checked
   checked : Fault → Checked
 
--- the refusal, if it is not 0, else the first fault
+-- 6.1: the refusal, if it is not 0, else the first fault
 abbrev pub checkedIf : ℕ → Fault → Checked
 checkedIf zero x = checked x
 checkedIf (suc r) x = refused (suc r)

@@ -28,11 +28,11 @@ coreOf P c = c % P .cores
 abbrev pub beside : Instance → ℕ → ℕ → ℕ
 beside P c j = slotOf P c * P .cores + j
 
--- 3.5: what the value v in cell c does for job k of task i: the rate, if it is that task in one of the job's slots
+-- 3.6: what the value v in cell c does for job k of task i: the rate, if it is that task in one of the job's slots
 unfoldable pub share : Instance → ℕ → ℕ → ℕ → ℕ → ℕ
 share P i k c v = gate (eqb v i && jobSlot P i k (slotOf P c)) (P .rate i (coreOf P c))
 
--- 3.5: what the first c cells do for the job
+-- 3.6: what the first c cells do for the job
 unfoldable pub done : Instance → ℕ → (ℕ → ℕ) → ℕ → ℕ → ℕ
 done P c f i k = sum c (λ d. share P i k d (f d))
 
@@ -40,24 +40,24 @@ done P c f i k = sum c (λ d. share P i k d (f d))
 abbrev pub workLeft : Instance → ℕ → (ℕ → ℕ) → ℕ → ℕ → ℕ
 workLeft P c f i k = P .work i - done P c f i k
 
--- 3.4: the value v does not stand on an earlier core of the slot of cell c
+-- 3.5: the value v does not stand on an earlier core of the slot of cell c
 unfoldable pub free : Instance → ℕ → (ℕ → ℕ) → ℕ → Bool
 free P c f v = all (coreOf P c) (λ j. not (eqb (f (beside P c j)) v))
 
--- a valid table, by its cells: C1 to C4
+-- 3.2: a valid table, by its cells: C1 to C4
 pub record Valid (P : Instance) (f : ℕ → ℕ) : Type 0 where
-  -- 3.3: C2, by its form; a cell is 0 or a task number
+  -- 3.4: C2, by its form; a cell is 0 or a task number
   pub known : (c : ℕ) → c < cells P → f c ≤ P .tasks
-  -- 3.2: C1, a task stands only in slots where it is open
+  -- 3.3: C1, a task stands only in slots where it is open
   pub open-there : (c : ℕ) → c < cells P → f c ≢ 0 → T (P .opens (f c) (slotOf P c))
-  -- 3.2: C1, and only on cores with a positive rate for it
+  -- 3.3: C1, and only on cores with a positive rate for it
   pub rated : (c : ℕ) → c < cells P → f c ≢ 0 → 0 < P .rate (f c) (coreOf P c)
-  -- 3.4: C3, a task stands at most once in a slot
+  -- 3.5: C3, a task stands at most once in a slot
   pub once : (c d : ℕ) → c < cells P → d < cells P → c ≢ d → slotOf P c ≡ slotOf P d → f c ≡ f d → f c ≡ 0
-  -- 3.5: C4, over each job's slots the rates of its cells add up to exactly C
+  -- 3.6: C4, over each job's slots the rates of its cells add up to exactly C
   pub full : (i k : ℕ) → i ≢ 0 → i ≤ P .tasks → k < P .jobs i → done P (cells P) f i k ≡ P .work i
 
--- 3.1: a list of cells that is a valid table
+-- 3.2: a list of cells that is a valid table
 pub record Table (P : Instance) (t : List ℕ) : Type 0 where
   pub size : length t ≡ cells P
   pub valid : Valid P (nth t)

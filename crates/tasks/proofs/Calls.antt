@@ -57,10 +57,10 @@ soundnessFrom (sound h) = Sound (record { 0 = h })
 soundnessFrom (refused number) = Refused number
 
 -- is the answer
-answer-of : (r : Soundness) → soundnessFrom (testedAs r) ≡ r
+soundness-back : (r : Soundness) → soundnessFrom (testedAs r) ≡ r
 unfolding testedAs soundnessFrom
-answer-of (Sound h) = refl
-answer-of (Refused number) = refl
+soundness-back (Sound h) = refl
+soundness-back (Refused number) = refl
 
 abbrev pub TestList : TaskList → ℕ → Soundness → Type 0
 TestList list m r = testedAs r ≡ tested m (rows list)
@@ -69,7 +69,7 @@ test-list-says : (κs list m list′ m′ r : _) → Says (λ M 𝓤 H A mem run
 test-list-says κs list m list′ m′ r M 𝓤 H A mem run = refl
 
 pub test-list-only : (list : TaskList) (m : ℕ) (r r′ : Soundness) → TestList list m r → TestList list m r′ → r ≡ r′
-test-list-only list m r r′ = only-told testedAs soundnessFrom answer-of
+test-list-only list m r r′ = only-told testedAs soundnessFrom soundness-back
 
 -- the cases: sound, none of 1 to 8 refuses the list, and H slots
 pub test-list-sound : (list : TaskList) (m : ℕ) (h : Slots) → TestList list m (Sound h) → IsSound m (rows list) × (h .0 ≡ tableLength (rows list))

@@ -11,7 +11,7 @@ use lib.Dec.{T as Passes, ltb, eqb, lt→ltb, ltb→lt, eqb→eq, eqb-refl}
 use lib.Arith.{digits-div, digits-mod, mod-mul}
 use Rattle.laws.specs.Sum.{gate, sum}
 use Rattle.laws.proofs.SumLaws.{gate-eq, gate-ne, gate-zero, sum-ext, sum-zero, sum-shift, sum-cells, sum-only, sum-below}
-use Rattle.tasks.specs.Window.{place, jobAt, IsOpen, isOpen, isJobs, highest, lastSlot, during, work, InWindow, Cyclic}
+use Rattle.tasks.specs.Window.{place, jobAt, IsOpen, isOpen, isJobs, highest, lastSlot, during, doneIn, InWindow, Cyclic}
 
 -- ---- places
 -- a place is below the length
@@ -184,7 +184,7 @@ module _ {L D T q : ℕ} (w : Cyclic L D T q) (O : ℕ) where
       ∙ add-mul-mod-self-left (O + (K % q * T + u)) L (K / q)
 
   -- the work of job k is what is done in its window, which starts at O + k * T and may run round the table's end
-  pub work-window : (k : ℕ) (g : ℕ → ℕ) → k < q → work L O D T k g ≡ sum D (λ u. g ((O + (k * T + u)) % L))
+  pub work-window : (k : ℕ) (g : ℕ → ℕ) → k < q → doneIn L O D T k g ≡ sum D (λ u. g ((O + (k * T + u)) % L))
   work-window k g h =
       sym (sum-shift L O (λ t. during L O D T k t (g t)))
       ∙ sum-ext L (λ x. during L O D T k ((O + x) % L) (g ((O + x) % L))) (λ x. part (x / T) (x % T)) term
@@ -201,7 +201,7 @@ module _ {L D T q : ℕ} (w : Cyclic L D T q) (O : ℕ) where
       term x l = during-is L O D T k ((O + x) % L) _ ∙ cc (place-after L O x (pos-L w), mod-eq-of-lt l, div-add-mod' x T)
 
   -- the same for a time in the K-th window, counted from the start
-  pub work-at : (K : ℕ) (g : ℕ → ℕ) → work L O D T (K % q) g ≡ sum D (λ u. g ((O + (K * T + u)) % L))
+  pub work-at : (K : ℕ) (g : ℕ → ℕ) → doneIn L O D T (K % q) g ≡ sum D (λ u. g ((O + (K * T + u)) % L))
   work-at K g =
       work-window (K % q) g (mod-lt K (w .some-jobs))
       ∙ sum-ext D (λ u. g ((O + (K % q * T + u)) % L)) (λ u. g ((O + (K * T + u)) % L)) (λ u l. ap g (sym (slot-again K u)))

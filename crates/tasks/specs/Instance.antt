@@ -44,11 +44,11 @@ instanceOf L m ts = record {
   work = λ i. task ts i .work .0;
 }
 
--- 2.3: the instance of a task list on m cores in its own H slots
+-- 1.6: the instance of a task list on m cores in its own H slots
 abbrev pub ownInstance : ℕ → List Task → Instance
 ownInstance m ts = instanceOf (tableLength ts) m ts
 
--- what an instance must have for its jobs to be the table's: a core, a slot, and in each open slot one of the task's jobs
+-- what an instance must have for its jobs to be the table's: a core, a slot, and in each slot, for a task that is open there, one of its jobs
 pub record Regular (P : Instance) : Type 0 where
   pub some-core : 0 < P .cores
   pub some-slot : 0 < P .slots

@@ -38,7 +38,7 @@ mostRate m j = cond (ltb j m) 15 0
 unfoldable pub ratesFit : ℕ → Rates → Bool
 ratesFit m r = all 4 (λ j. leb (nth (r .0) j) (mostRate m j))
 
--- 1.2, 5.4, 5.7: within a task 3 to 7: period T 1..1024, deadline D 1..T, work C 1..4096, offset O 0..1023, rates
+-- 1.2, 1.7, 5.4, 5.7: within a task 3 to 7: period T 1..1024, deadline D 1..T, work C 1..4096, offset O 0..1023, rates
 unfoldable pub taskRefusal : ℕ → Task → ℕ
 taskRefusal m τ =
     unless (within 1 1024 (τ .period .0)) 3
@@ -59,7 +59,7 @@ periodAt ts k = task ts (suc k) .period .0
 unfoldable pub tableLength : List Task → ℕ
 tableLength ts = lcmsOf (length ts) (periodAt ts)
 
--- 5.4, 5.7: 1 no task or over 16; 2 cores not 1..4; 3 to 7 task by task; 8 H over 1024
+-- 1.1, 1.6, 5.4, 5.7: 1 no task or over 16; 2 cores not 1..4; 3 to 7 task by task; 8 H over 1024
 unfoldable pub refusal : ℕ → List Task → ℕ
 refusal m ts =
     unless (within 1 16 (length ts)) 1
@@ -76,7 +76,7 @@ abbrev pub fitsIf : Bool → ℕ → Length
 fitsIf true h = Fits (record { 0 = h })
 fitsIf false h = TooLong
 
--- what the code answers of a table's length
+-- 1.6: what the code answers of a table's length
 unfoldable pub lengthOf : List Task → Length
 lengthOf ts = fitsIf (leb (tableLength ts) 1024) (tableLength ts)
 

@@ -51,5 +51,5 @@ abbrev pub during : ℕ → ℕ → ℕ → ℕ → ℕ → ℕ → ℕ → ℕ
 during L O D T k t x = gate (isJobs L O D T k t) x
 
 -- what g does in the slots of job k
-abbrev pub work : ℕ → ℕ → ℕ → ℕ → ℕ → (ℕ → ℕ) → ℕ
-work L O D T k g = sum L (λ t. during L O D T k t (g t))
+abbrev pub doneIn : ℕ → ℕ → ℕ → ℕ → ℕ → (ℕ → ℕ) → ℕ
+doneIn L O D T k g = sum L (λ t. during L O D T k t (g t))

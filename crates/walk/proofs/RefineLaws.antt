@@ -117,7 +117,7 @@ pub record Before (P : Instance) (first slot core sets : ℕ) (t l : List ℕ) :
   pub lefts : Lefts P (first + core) (nth t) l
   pub known : (d : ℕ) → d < first + core → nth t d ≤ P .tasks
   pub long : cells P ≤ length t
-  pub wide : length l ≡ 16385
+  pub sized : length l ≡ 16385
 
 -- after a value in it
 pub record After (P : Instance) (first slot core sets : ℕ) (t l : List ℕ) : Type 0 where
@@ -125,7 +125,7 @@ pub record After (P : Instance) (first slot core sets : ℕ) (t l : List ℕ) : 
   pub lefts : Lefts P (suc (first + core)) (nth t) l
   pub known : (d : ℕ) → d < suc (first + core) → nth t d ≤ P .tasks
   pub long : cells P ≤ length t
-  pub wide : length l ≡ 16385
+  pub sized : length l ≡ 16385
 
 -- the cells of a slot are the table's
 cell-in : {P : Instance} {first slot core sets : ℕ} {t l : List ℕ} → Before P first slot core sets t l → first + core < cells P
@@ -176,7 +176,7 @@ module _ {P : Instance} (small : Small P) (e b : ℕ) (grid : List ℕ) (ready :
     after : (t : List ℕ) → take (first + core) t ≡ take (first + core) t₀ → length t ≡ length t₀ → (w : ℕ) → w ≤ P .tasks → (sets₁ : ℕ)
         → Sets P slot (core + 1) (suc (first + core)) (nth (set t (first + core) w)) sets₁ → (l₁ : List ℕ) → length l₁ ≡ 16385
         → Lefts P (first + core + 1) (nth (set t (first + core) w)) l₁ → After P first slot core sets₁ (set t (first + core) w) l₁
-    after t et el w lw sets₁ holds l₁ wide lefts = record {
+    after t et el w lw sets₁ holds l₁ sized lefts = record {
       holds = holds;
       lefts = subst (λ c. Lefts P c (nth (set t (first + core) w)) l₁) (add-one (first + core)) lefts;
       known = λ d ld. elim (ℕ-discrete d (first + core)) [
@@ -184,7 +184,7 @@ module _ {P : Instance} (small : Small P) (e b : ℕ) (grid : List ℕ) (ready :
         | no x ↦ rw (getD-set-other t (first + core) d w 0 x, cell-same (first + core) t t₀ et d (omega arith)) (stands .known d (omega arith))
       ];
       long = rw (length-set t (first + core) w) (omega (arith, stands .long, el));
-      wide = wide;
+      sized = sized;
     }
 
     -- what the walk below a value w tells
@@ -193,10 +193,10 @@ module _ {P : Instance} (small : Small P) (e b : ℕ) (grid : List ℕ) (ready :
         → Lefts P (first + core + 1) (nth (set t (first + core) w)) l₁ → (u : ℕ) → u ≤ b
         → Shows b (cells P) (suc (first + core)) (set t (first + core) w) l₁ (next sets₁ (set t (first + core) w) l₁ u)
         (bwalk b (ruleOf e P) (values P) rest (take (first + core) t₀ ++ w ∷ []) u)
-    below t et el w lw sets₁ holds l₁ wide lefts u lu =
+    below t et el w lw sets₁ holds l₁ sized lefts u lu =
         subst (λ p. Shows b (cells P) (suc (first + core)) (set t (first + core) w) l₁ (next sets₁ (set t (first + core) w) l₁ u) (bwalk b (ruleOf e P) (values P) rest p u))
         (take-suc-set t (first + core) w (omega (arith, room, el)) ∙ ap (λ p. p ++ w ∷ []) et)
-        (onward sets₁ (set t (first + core) w) l₁ u (after t et el w lw sets₁ holds l₁ wide lefts) lu)
+        (onward sets₁ (set t (first + core) w) l₁ u (after t et el w lw sets₁ holds l₁ sized lefts) lu)
 
     -- idle, after the last task
     idle-shows : (t : List ℕ) (barred u : ℕ) → take (first + core) t ≡ take (first + core) t₀ → length t ≡ length t₀
@@ -210,7 +210,7 @@ module _ {P : Instance} (small : Small P) (e b : ℕ) (grid : List ℕ) (ready :
             (record { answer = ap stopped q; prefix = et; long = el; most = lu; again = λ w. absurd (stopped-apart w) })
         | no x ↦ shows-same {s = next sets (set t (first + core) 0) l (u + 1)} (rw (eq-eqb barred 0 z, ne-eqb u b x)) (ap (λ a. bnext 0 a ends) (one-goes P e b rest (take (first + core) t₀) 0 u (h ∙ eq-eqb barred 0 z) x lu))
             (let r = next sets (set t (first + core) 0) l (u + 1) in
-            let s = below t et el 0 (omega arith) sets (sets-idle small ready (stands .first-is) (stands .slot-in) (stands .core-in) t (omega (arith, room, el)) (holds-same (first + core) t t₀ et (stands .holds))) l (stands .wide) (lefts-idle small ready (stands .first-is) (stands .slot-in) (stands .core-in) t l (omega (arith, room, el)) (lefts-same (first + core) t t₀ et P l (stands .lefts))) (u + 1) (omega arith) in
+            let s = below t et el 0 (omega arith) sets (sets-idle small ready (stands .first-is) (stands .slot-in) (stands .core-in) t (omega (arith, room, el)) (holds-same (first + core) t t₀ et (stands .holds))) l (stands .sized) (lefts-idle small ready (stands .first-is) (stands .slot-in) (stands .core-in) t l (omega (arith, room, el)) (lefts-same (first + core) t t₀ et P l (stands .lefts))) (u + 1) (omega arith) in
             end-cases (r .end)
             (λ w. record {
               answer = ap (λ y. toldAt y (cells P) (first + core) (r .table) (r .tries)) w
@@ -298,8 +298,8 @@ module _ {P : Instance} (small : Small P) (e b : ℕ) (grid : List ℕ) (ready :
                 (bwalk b (ruleOf e P) (values P) rest (take (first + core) t₀ ++ (v + 1) ∷ []) (u + 1))
             unfolding l₁ r
             tells-below = below t et el (v + 1) (omega arith) (without sets v)
-                (sets-put small ready (stands .first-is) (stands .slot-in) (stands .core-in) t (omega (arith, room, el)) holds v (omega (arith, small .few-tasks))) l₁ (length-set l _ _ ∙ stands .wide)
-                (lefts-put small ready (stands .first-is) (stands .slot-in) (stands .core-in) t l (omega (arith, room, el)) (stands .wide) lefts v lv
+                (sets-put small ready (stands .first-is) (stands .slot-in) (stands .core-in) t (omega (arith, room, el)) holds v (omega (arith, small .few-tasks))) l₁ (length-set l _ _ ∙ stands .sized)
+                (lefts-put small ready (stands .first-is) (stands .slot-in) (stands .core-in) t l (omega (arith, room, el)) (stands .sized) lefts v lv
                 (open-tells small ready (stands .first-is) (stands .slot-in) (stands .core-in) (nth t) holds v lv p))
                 (u + 1) (omega arith)
               where
@@ -392,7 +392,7 @@ module _ {P : Instance} (small : Small P) (e b : ℕ) (grid : List ℕ) (ready :
 
   module _ (rest : ℕ) (goes : Goes rest) {first slot core : ℕ} (ef : first ≡ slot * P .cores) (ls : slot < P .slots) (lc : core < P .cores)
       (er : rest + suc (first + core) ≡ cells P) (sets : ℕ) (t l : List ℕ) (after : After P first slot core sets t l) (u : ℕ) (lu : u ≤ b) where
-    -- what closes the cell is told by the rule
+    -- whether the walk goes on behind the cell is told by the rule
     goes-at : ruleOf e P .goesOn (take (suc (first + core)) t) ≡ allSettled P (suc (first + core)) (nth t)
     goes-at = goes-prefix P e (suc (first + core)) t (omega (arith, after .long))
 
@@ -412,7 +412,7 @@ module _ {P : Instance} (small : Small P) (e b : ℕ) (grid : List ℕ) (ready :
           lefts = subst (λ x. Lefts P x (nth t) l) (sym es ∙ ec) (after .lefts);
           known = λ d ld. after .known d (omega arith);
           long = after .long;
-          wide = after .wide;
+          sized = after .sized;
         }
 
         go : (k : ℕ) → Goes k → k + suc (first + core) ≡ cells P
@@ -494,7 +494,7 @@ module _ {P : Instance} (small : Small P) (e b : ℕ) (grid : List ℕ) (ready :
   pub walk-limited : (t l : List ℕ) → Lefts P 0 (nth t) l → cells P ≤ length t → length l ≡ 16385 → (u : ℕ) → u ≤ b
       → Shows b (cells P) 0 t l (walkOn (cells P) grid b 0 0 0 (setsOn grid l 0) t l u) (limited b (spend u (walked e P)))
   unfolding Goes
-  walk-limited t l lefts long wide u lu = shows-same refl (sym (bwalk-from b (ruleOf e P) (values P) (cells P) [] u lu)) (go (cells P) (omega arith) some)
+  walk-limited t l lefts long sized u lu = shows-same refl (sym (bwalk-from b (ruleOf e P) (values P) (cells P) [] u lu)) (go (cells P) (omega arith) some)
     where
       some : 0 < cells P
       some = mul-pos (small .regular .some-slot) (small .regular .some-core)
@@ -508,7 +508,7 @@ module _ {P : Instance} (small : Small P) (e b : ℕ) (grid : List ℕ) (ready :
         lefts = lefts;
         known = λ d ld. absurd (omega arith);
         long = long;
-        wide = wide;
+        sized = sized;
       }
 
       go : (k : ℕ) → k + (0 + 0) ≡ cells P → 0 < k → Shows b (cells P) 0 t l (walkOn k grid b 0 0 0 (setsOn grid l 0) t l u) (bwalk b (ruleOf e P) (values P) k [] u)

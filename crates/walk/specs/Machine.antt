@@ -113,6 +113,6 @@ pub record Leaves (limit : ℕ) (s : State) (r : ℕ) (t l : List ℕ) : Type 0 
 pub record Ran (grid : List ℕ) (place sets : ℕ) (t l : List ℕ) (u r : ℕ) (t′ l′ : List ℕ) : Type 0 where
   pub leaves : Leaves full (walkOn (suc (cellsLeft grid place)) grid full (firstOn grid place) (place / 4) (place % 4) sets t l u) r t′ l′
 
--- the same after a cell, with the slot to close
+-- the same after a cell, with the slot to finish
 pub record RanAfter (grid : List ℕ) (place sets : ℕ) (t l : List ℕ) (u r : ℕ) (t′ l′ : List ℕ) : Type 0 where
   pub leaves : Leaves full (afterCell grid (walkOn (cellsLeft grid place) grid full) (firstOn grid place) (place / 4) (place % 4 + 1) sets t l u) r t′ l′
