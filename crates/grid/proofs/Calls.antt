@@ -1,6 +1,6 @@
 -- What a call of each public function ensures, as its contract says, and that it leaves one answer; grid, table and work left are only read.
 -- Assumes nothing.
-use Prim.Native.Nat.{ℕ, _≤_, _<_}
+use Prim.Native.Nat.{ℕ, _≤_}
 use mathlib.Core.Path.{_≡_, refl}
 use mathlib.Core.Bool.{Bool}
 use mathlib.Core.List.{List}
