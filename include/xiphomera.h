@@ -3,7 +3,7 @@
  * A list of tasks comes as a pointer to the first record and the number of records: 0 of them, or more than 16, are
  * refused by 1, whatever they hold. A table comes as a pointer and its number of cells: H x m of them, slot by slot
  * from slot 0, core by core within a slot; a cell is 0 (idle) or a task number. Every call copes with every number
- * that it is handed, cuts none of them off, and keeps nothing of what it is lent. No pointer may be null, not even one
+ * that it is handed, cuts none of them off, and keeps no pointer to what it is lent. No pointer may be null, not even one
  * to 0 records or cells; what a pointer leads to is aligned as its type and was written before, if only by 0 (a static
  * record is); and what is written to may not overlap with anything else that the call is lent.
  *

@@ -221,6 +221,16 @@ static void checks_tables(void) {
     expect(checks(p, XIPHOMERA_REFUSED, 0, 0, XIPHOMERA_BAD_COUNT), "a check of no task is refused by 1");
 }
 
+static void answers_texts(void) {
+    static const char p2[] = "0101\n02010002000200020003\n030101000000\n07\n";
+    static const char found[] = "050000000003\n06000001000000\n06000100000000\n06000201000000\n07\n";
+    static uint8_t out[XIPHOMERA_LONGEST_ANSWER];
+    const size_t bytes = xiphomera_plan_text((const uint8_t *)p2, sizeof p2 - 1, out, sizeof out);
+    expect(bytes == sizeof found - 1 && memcmp(out, found, bytes) == 0, "P2's text is answered");
+    out[0] = 85;
+    expect(xiphomera_plan_text((const uint8_t *)p2, sizeof p2 - 1, out, sizeof out - 1) == 0 && out[0] == 85, "a short room is left alone");
+}
+
 int main(void) {
     starts_on_any_record();
     plays_p2();
@@ -232,5 +242,6 @@ int main(void) {
     cuts_no_start_off();
     searches();
     checks_tables();
+    answers_texts();
     return failures != 0;
 }

@@ -1,4 +1,4 @@
-//! An ordinary planner, written from the exact rules alone, to hold the proved library against.
+//! An ordinary planner, written from the rules alone, to hold the proved library against.
 //!
 //! `cargo test` needs nothing else. The programs in `bin` link the proved library; the environment
 //! variable XIPHOMERA_ARCHIVE gives the path of its static archive.

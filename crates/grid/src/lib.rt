@@ -1,11 +1,12 @@
-// The walk's grid: one array, filled once for a search, with all that the walk reads of a list; and how it is read.
+// The walk's grid: one array, filled once for a search, with all that the walk reads of a list but its work; and how it is
+// read.
 //
 //      place   what stands there                                                          how many
 //          0   entries: for slot t and task v, at t * 16 + v, twice the counter of the
 //              task's job there, and 1 more in the job's highest-numbered slot            1024 * 16
 //      16384   rates: of task v on core c, at v * 4 + c                                     16 * 4
 //      16448   even: for rule A, 1 for a task whose positive rates are equal                16
-//      16464   twins: for rule B, at c * 4 + j, 1 if core j is an earlier twin of c          4 * 4
+//      16464   twins: for rule B, at c * 4 + j, 1 if cores c and j are twins; read for j < c 4 * 4
 //      16480   the task count, the cores, the slots                                          3
 //      16483   fits: for task v and work w up to 15, at v * 16 + w, the cores, as bits,
 //              on which its rate is positive and within that work                           16 * 16
