@@ -43,8 +43,11 @@ pub fn open_in(len: Slots, t: Task, slot: Slots) -> Window
     requires { ⌜ (0 < len .0) × (len .0 ≤ 1024) × (slot .0 < len .0) × (0 < t .period .0) ⌝ }
     ensures { λ r. ⌜ inSlotAs r ≡ inSlot (len .0) t (slot .0) ⌝ }
 {
-    if is_open(len, t, slot) {
-        Window::Open(job_at(len, t, slot))
+    let p = place(len, t.offset, slot);
+    let job = p.0 / t.period.0;
+    let in_period = p.0 - job * t.period.0;
+    if in_period < t.deadline.0 {
+        Window::Open(job)
     } else {
         Window::Closed
     }

@@ -1,15 +1,47 @@
--- `windows::open_in` meets its contract: open, with the job's number, or closed.
+-- `windows::open_in` meets its contract: what a place has beyond its job's start is the place mod T.
 -- Assumes nothing.
-use Rattle.windows.proofs.AnswerLaws.{window-open, window-closed}
+use Prim.Native.Nat.{ℕ, _*_, _-_, _/_, _≤_, _<_}
+use mathlib.Core.Path.{_≡_, sym, ap, _∙_}
+use lib.Dec.{ltb}
+use native.Mathlib.Nat.{lt-of-le-of-lt, div-mul-le-self, mod-eq-sub-div-mul}
+use borrow.Author.Tests.{lt-ltb, le-ltb}
 use borrow.Author.Needs.{needs}
+use Rattle.tasks.specs.declared.Task.{Task}
+use Rattle.tasks.specs.Window.{place, isOpen}
+use Rattle.windows.specs.declared.Window.the-variants.{Open, Closed}
+use Rattle.windows.specs.Answer.{inSlotAs, inSlot}
+use Rattle.windows.proofs.AnswerLaws.{open-at, job-at, window-open, window-closed}
 use Rattle.windows.proofs.open_in.Statement.{statement}
 use Rattle.windows.proofs.open_in.Tie as tie
 
+module _ (L t : ℕ) (τ : Task) (p : ℕ) (placed : p ≡ place L (τ .offset .0) t) where
+  -- the place in the period, by the job's number
+  abbrev inPeriod : ℕ
+  inPeriod = p - p / τ .period .0 * τ .period .0
+
+  -- the test on it is the definition's
+  test-in-period : ltb inPeriod (τ .deadline .0) ≡ isOpen L (τ .offset .0) (τ .deadline .0) (τ .period .0) t
+  test-in-period = ap (λ x. ltb x (τ .deadline .0)) (sym (mod-eq-sub-div-mul p (τ .period .0))) ∙ open-at L _ _ _ t p placed
+
+  -- below the deadline: open
+  in-window : inPeriod < τ .deadline .0 → inSlotAs (Open (p / τ .period .0)) ≡ inSlot L τ t
+  in-window l = window-open L t τ _ test-in-period (lt-ltb _ _ l) _ (job-at L _ _ t p placed)
+
+  -- from the deadline on: closed
+  past-window : τ .deadline .0 ≤ inPeriod → inSlotAs Closed ≡ inSlot L τ t
+  past-window l = window-closed L t τ _ test-in-period (le-ltb _ _ l)
+
+mul-in-period : tie.Need-mul-in-period
+mul-in-period c = record { fits = lt-of-le-of-lt (div-mul-le-self _ _) (search needs) }
+
+sub-in-period : tie.Need-sub-in-period
+sub-in-period c = div-mul-le-self _ _
+
 returns : tie.Need-returns
-returns c = window-open _ _ _ _ (c .before .before .is-open .ensures) (c .before .if1 .taken) _ (c .job-at .ensures)
+returns c = search (needs, in-window)
 
 returns-2 : tie.Need-returns-2
-returns-2 c = window-closed _ _ _ _ (c .before .is-open .ensures) (c .if1 .left)
+returns-2 c = search (needs, past-window)
 
 pub open-in-spec : {M : Type 1} → statement M
-open-in-spec = tie.close (tie.spec (λ c κs. search needs) (λ c κs. search needs) returns returns-2)
+open-in-spec = tie.close (tie.spec (λ c κs. search needs) (λ c. search needs) mul-in-period sub-in-period returns returns-2)
