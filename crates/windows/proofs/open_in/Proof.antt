@@ -24,12 +24,12 @@ module _ (L t : ℕ) (τ : Task) (p : ℕ) (placed : p ≡ place L (τ .offset .
   test-in-period = ap (λ x. ltb x (τ .deadline .0)) (sym (mod-eq-sub-div-mul p (τ .period .0))) ∙ open-at L _ _ _ t p placed
 
   -- below the deadline: open
-  in-window : inPeriod < τ .deadline .0 → inSlotAs (Open (p / τ .period .0)) ≡ inSlot L τ t
-  in-window l = window-open L t τ _ test-in-period (lt-ltb _ _ l) _ (job-at L _ _ t p placed)
+  before-deadline : inPeriod < τ .deadline .0 → inSlotAs (Open (p / τ .period .0)) ≡ inSlot L τ t
+  before-deadline l = window-open L t τ _ test-in-period (lt-ltb _ _ l) _ (job-at L _ _ t p placed)
 
   -- from the deadline on: closed
-  past-window : τ .deadline .0 ≤ inPeriod → inSlotAs Closed ≡ inSlot L τ t
-  past-window l = window-closed L t τ _ test-in-period (le-ltb _ _ l)
+  past-deadline : τ .deadline .0 ≤ inPeriod → inSlotAs Closed ≡ inSlot L τ t
+  past-deadline l = window-closed L t τ _ test-in-period (le-ltb _ _ l)
 
 mul-in-period : tie.Need-mul-in-period
 mul-in-period c = record { fits = lt-of-le-of-lt (div-mul-le-self _ _) (search needs) }
@@ -38,10 +38,10 @@ sub-in-period : tie.Need-sub-in-period
 sub-in-period c = div-mul-le-self _ _
 
 returns : tie.Need-returns
-returns c = search (needs, in-window)
+returns c = search (needs, before-deadline)
 
 returns-2 : tie.Need-returns-2
-returns-2 c = search (needs, past-window)
+returns-2 c = search (needs, past-deadline)
 
 pub open-in-spec : {M : Type 1} → statement M
 open-in-spec = tie.close (tie.spec (λ c κs. search needs) (λ c. search needs) mul-in-period sub-in-period returns returns-2)
