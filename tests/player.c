@@ -222,7 +222,7 @@ static void checks_tables(void) {
 }
 
 static void answers_texts(void) {
-    static const char p2[] = "0101\n02010002000200020003\n030101000000\n07\n";
+    static const char p2[] = "0101\n02010002000200020003\n030101000000\n0400000F4240\n07\n";
     static const char found[] = "050000000003\n06000001000000\n06000100000000\n06000201000000\n07\n";
     static uint8_t out[XIPHOMERA_LONGEST_ANSWER];
     const size_t bytes = xiphomera_plan_text((const uint8_t *)p2, sizeof p2 - 1, out, sizeof out);
