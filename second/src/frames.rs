@@ -102,7 +102,7 @@ pub fn read_problem(text: &[u8]) -> Result<Problem, Refusal> {
     let mut problem = Problem {
         tasks: Vec::new(),
         cores: 0,
-        engine: 0,
+        engine: 1,
         limit: 1_000_000,
     };
     let mut due = Due::Cores;
@@ -217,7 +217,7 @@ mod tests {
     #[test]
     fn the_usual_engine_and_limit() {
         let problem = read_problem(PROBLEM.replace("0401000003E8\n", "").as_bytes()).unwrap();
-        assert_eq!((problem.engine, problem.limit), (0, 1_000_000));
+        assert_eq!((problem.engine, problem.limit), (1, 1_000_000));
     }
 
     #[test]

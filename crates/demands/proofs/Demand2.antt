@@ -4,7 +4,7 @@ use Prim.Native.Nat.{ℕ, _^_, _≤_, _<_}
 use native.Mathlib.Omega.{arith}
 use mathlib.Core.Path.{_≡_, sym, ap, subst, _∙_}
 use mathlib.Core.Logic.{_≢_, _↔_}
-use mathlib.Core.List.{List}
+use mathlib.Core.List.{List, []}
 use lib.ListN.{length, replicate, length-replicate}
 use Rattle.laws.specs.Lists.{over}
 use Rattle.tasks.specs.declared.Task.{Task}
@@ -28,7 +28,9 @@ use Rattle.clock.proofs.ClockLaws.{tickAfter}
 use Rattle.player.specs.declared.Player.{Player}
 use Rattle.player.proofs.Demand2 as played
 use Rattle.player.proofs.Demand2.{Run, Keeps, Plays}
+use Rattle.lines.specs.Lines.{lines}
 use Rattle.frames.specs.Read.{problem, readProblem}
+use Rattle.frames.proofs.LimitLaws.{limitsIn, left-out-quick}
 use Rattle.answer.specs.Write.{writeAnswer}
 use Rattle.planner.specs.Answer.{searchAnswer, answerToRead}
 use Rattle.planner.proofs.Calls.{Plan, Check, Start, PlanText}
@@ -75,6 +77,12 @@ pub text-plans : (text out : List ℕ) (r : ℕ) (out′ : List ℕ) → PlanTex
     → (s : Searched) × Searches (ownInstance m ts) (walked e (ownInstance m ts)) b (replicate 4096 0) s × WritesAnswer m ts s out r out′
 text-plans text out r out′ call l m ts e b reads sound engine =
     (search m ts e b (replicate 4096 0), searches m ts e b (replicate 4096 0) sound engine (room m ts sound), text-writes text out r out′ call l m ts e b reads)
+
+-- quick unless told otherwise: where the text has no 04, by engine 1 with limit 1000000
+pub quick-unless-told : (text out : List ℕ) (r : ℕ) (out′ : List ℕ) → PlanText text out r out′ → 15376 ≤ length out
+    → (m : ℕ) (ts : List Task) (e b : ℕ) → readProblem text ≡ problem m ts e b → limitsIn (lines text) ≡ [] → IsSound m ts
+    → (s : Searched) × Searches (ownInstance m ts) (walked 1 (ownInstance m ts)) 1000000 (replicate 4096 0) s × WritesAnswer m ts s out r out′
+quick-unless-told text out r out′ call l m ts e b reads none sound = text-plans text out r out′ call l m ts 1 1000000 (left-out-quick text m ts e b reads none) sound (omega arith)
 
 module _ (ts : List Task) (m : ℕ) (t : List ℕ) (p : Player) (tick : ℕ → ℕ) (n : ℕ) (shown : ℕ → Shown) (left : ℕ → Player)
     (valid : Check ts m t IsValid) (run : Run ts m t p tick n shown left) where

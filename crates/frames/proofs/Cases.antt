@@ -38,8 +38,9 @@ readings : List (List ℕ × Read)
 unfolding bytes
 readings =
     (bytes example, problem 2 (equal 1 ∷ equal 2 ∷ equal 3 ∷ []) 1 1000)
-    -- 04 left out, and no task
-    ∷ (bytes "0102\n07\n", problem 2 [] 0 1000000)
+    -- no task; 04 left out, and one that names engine 0 with the same limit
+    ∷ (bytes "0102\n07\n", problem 2 [] 1 1000000)
+    ∷ (bytes "0102\n0400000F4240\n07\n", problem 2 [] 0 1000000)
     -- over 1024 bytes, whatever they are; 1024 are not
     ∷ (replicate 1025 10, refused 20)
     ∷ (replicate 1024 10, refused 21)

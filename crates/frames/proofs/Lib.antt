@@ -1,4 +1,5 @@
 pub mod Cases
+pub mod LimitLaws
 mod PlaceLaws
 pub mod ProblemLaws
 mod ReachLaws

@@ -32,9 +32,9 @@ pub record Reading : Type 0 where
 abbrev pub said : Reading → Read
 said s = problem (s .m) (s .tasks) (s .engine) (s .limit)
 
--- 8.4: before the first frame; 04 left out: engine 0, limit 1000000
+-- 8.4: before the first frame; 04 left out: engine 1, limit 1000000
 abbrev pub start : Reading
-start = record { last = []; m = 0; tasks = []; engine = 0; limit = 1000000 }
+start = record { last = []; m = 0; tasks = []; engine = 1; limit = 1000000 }
 
 -- 8.3: 01, then for each task its 02 and its 03, then 04 at most once, then 07 and nothing more; kind 0 stands for the start
 unfoldable pub mayFollow : ℕ → ℕ → Bool

@@ -25,7 +25,9 @@ const NO_FRAME: u8 = 0;
 // A file over this is refused.
 const MAX_TEXT: usize = 1024;
 
-// The limit where 04 is left out.
+// The engine and the limit where 04 is left out (RULES 8.4).
+const ENGINE_LEFT_OUT: u8 = 1;
+
 const LIMIT_LEFT_OUT: u32 = 1000000;
 
 // The refusal of a text that is too long (RULES 8.5).
@@ -153,7 +155,7 @@ fn blank(refusal: u8) -> Problem
             period: [0; 16],
             rates: [0; 64],
         },
-        engine: 0,
+        engine: ENGINE_LEFT_OUT,
         limit: LIMIT_LEFT_OUT,
     }
 }

@@ -1,0 +1,117 @@
+-- Quick unless told otherwise: the engine and the limit that a text is read with, by its 04 frames. The words come first.
+-- Assumes nothing.
+use Prim.Native.Nat.{ℕ, zero, suc}
+use native.Mathlib.Decide.{ℕ-discrete}
+use native.Mathlib.Omega.{arith}
+use mathlib.Core.Path.{_≡_, refl, subst, _∙_}
+use mathlib.Core.Logic.{_≢_}
+use mathlib.Core.Bool.{true, cond, false≢true}
+use mathlib.Core.List.{List, [], _∷_}
+use borrow.Author.Tests.{eqb-true, eq-eqb, ne-eqb}
+use lib.Dec.{leb, eqb}
+use lib.ListN.{length}
+use Rattle.laws.specs.Lists.{nth}
+use Rattle.tasks.specs.declared.Task.{Task}
+use Rattle.tasks.specs.Refusal.{unless}
+use Rattle.lines.specs.Frame.{four}
+use Rattle.lines.specs.Lines.{Line, bytesOf, lines}
+use Rattle.lines.specs.Refusal.{lineRefusal}
+use Rattle.lines.proofs.RefusalLaws.{both-pass, unless-none}
+use Rattle.frames.specs.Read.{Read, refused, problem, Reading, said, start, mayFollow, inPlace, takenFrame, placeRefusal, orRead, readLines, readWithin, readProblem}
+
+-- ---- words
+-- the 04 frames among the lines of a text
+abbrev pub limitsIn : List Line → List (List ℕ)
+limitsIn [] = []
+limitsIn (l ∷ ls) = cond (eqb (nth (bytesOf (l .text)) 0) 4) (bytesOf (l .text) ∷ limitsIn ls) (limitsIn ls)
+
+-- what a text with these 04 frames is read as: a problem with engine e and limit b if there is none, with those of the 04 if there is one; else it is refused
+pub data PlannedBy (e b : ℕ) : List (List ℕ) → Read → Type 0 where
+  no-problem : {fs : List (List ℕ)} {k : ℕ} → PlannedBy e b fs (refused k)
+  left-out : {m : ℕ} {ts : List Task} → PlannedBy e b [] (problem m ts e b)
+  told : {m : ℕ} {ts : List Task} {f : List ℕ} → PlannedBy e b (f ∷ []) (problem m ts (nth f 1) (four f 2))
+
+-- ---- laws
+-- what is refused holds no problem
+or-planned : (e b : ℕ) (fs : List (List ℕ)) (k : ℕ) (r : Read) → (k ≡ 0 → PlannedBy e b fs r) → PlannedBy e b fs (orRead k r)
+or-planned e b fs zero r h = h refl
+or-planned e b fs (suc k) r h = no-problem
+
+-- the last line has been read
+end-planned : (e b : ℕ) (fs : List (List ℕ)) (s : Reading) → PlannedBy e b fs (said s) → PlannedBy e b fs (readLines s [])
+unfolding readLines
+end-planned e b fs s h = or-planned e b fs (unless (eqb (nth (s .last) 0) 7) 24 0) (said s) (λ z. h)
+
+-- a line that passes stands in its place
+line-planned : (e b : ℕ) (fs : List (List ℕ)) (l : Line) (ls : List Line) (s : Reading)
+    → (inPlace (nth (s .last) 0) (length (s .tasks)) (bytesOf (l .text)) ≡ true → PlannedBy e b fs (readLines (takenFrame s (bytesOf (l .text))) ls))
+    → PlannedBy e b fs (readLines s (l ∷ ls))
+unfolding readLines placeRefusal
+line-planned e b fs l ls s h =
+    or-planned e b fs (lineRefusal l) _ (λ z.
+    or-planned e b fs (placeRefusal s (bytesOf (l .text))) (readLines (takenFrame s (bytesOf (l .text))) ls) (λ q. h (unless-none _ 24 0 (omega arith) q .0)))
+
+-- an 04 says engine and limit, no other frame does
+module _ (l : Line) where
+  abbrev frame : List ℕ
+  frame = bytesOf (l .text)
+
+  one-more : (ls : List Line) → nth frame 0 ≡ 4 → limitsIn (l ∷ ls) ≡ frame ∷ limitsIn ls
+  one-more ls k = rw (eq-eqb (nth frame 0) 4 k)
+
+  no-more : (ls : List Line) → nth frame 0 ≢ 4 → limitsIn (l ∷ ls) ≡ limitsIn ls
+  no-more ls x = rw (ne-eqb (nth frame 0) 4 x)
+
+  says : (s : Reading) → nth frame 0 ≡ 4 → (takenFrame s frame .engine ≡ nth frame 1) × (takenFrame s frame .limit ≡ four frame 2)
+  unfolding takenFrame
+  says s k = (rw (eq-eqb (nth frame 0) 4 k), rw (eq-eqb (nth frame 0) 4 k))
+
+  says-not : (s : Reading) → nth frame 0 ≢ 4 → (takenFrame s frame .engine ≡ s .engine) × (takenFrame s frame .limit ≡ s .limit)
+  unfolding takenFrame
+  says-not s x = (rw (ne-eqb (nth frame 0) 4 x), rw (ne-eqb (nth frame 0) 4 x))
+
+-- behind an 04 comes an 07 alone, and behind that nothing
+behind-limit : (last kind : ℕ) → last ≡ 4 → mayFollow last kind ≡ true → kind ≡ 7
+unfolding mayFollow
+behind-limit last kind k e = eqb-true kind 7 (rw k at e)
+
+behind-end : (last kind : ℕ) → last ≡ 7 → mayFollow last kind ≡ true → kind ≡ 7
+unfolding mayFollow
+behind-end last kind k e = absurd (false≢true (rw k at e))
+
+module _ (e b : ℕ) where
+  -- where only an 07 may follow, no 04 does
+  only-end : (f : List ℕ) (ls : List Line) (s : Reading) → s .engine ≡ nth f 1 → s .limit ≡ four f 2 → ((kind : ℕ) → mayFollow (nth (s .last) 0) kind ≡ true → kind ≡ 7)
+      → PlannedBy e b (f ∷ limitsIn ls) (readLines s ls)
+  unfolding inPlace takenFrame
+  only-end f [] s engine limit ends = end-planned e b (f ∷ []) s (rw (engine, limit) told)
+  only-end f (l ∷ ls) s engine limit ends = line-planned e b _ l ls s (λ place.
+      let kind : nth (bytesOf (l .text)) 0 ≡ 7 = ends _ (both-pass _ _ place .0) in
+      let other : nth (bytesOf (l .text)) 0 ≢ 4 = λ q. omega arith in
+      let kept = says-not l s other in
+      rw (no-more l ls other) (only-end f ls (takenFrame s (bytesOf (l .text))) (kept .0 ∙ engine) (kept .1 ∙ limit) (λ next. behind-end _ next kind)))
+
+  -- the lines from any state on
+  lines-planned : (ls : List Line) (s : Reading) → s .engine ≡ e → s .limit ≡ b → PlannedBy e b (limitsIn ls) (readLines s ls)
+  unfolding takenFrame
+  lines-planned [] s engine limit = end-planned e b [] s (rw (engine, limit) left-out)
+  lines-planned (l ∷ ls) s engine limit = line-planned e b _ l ls s (λ place. elim (ℕ-discrete (nth (bytesOf (l .text)) 0) 4) [
+    | yes k ↦
+        let own = says l s k in
+        rw (one-more l ls k) (only-end (bytesOf (l .text)) ls (takenFrame s (bytesOf (l .text))) (own .0) (own .1) (λ next. behind-limit _ next k))
+    | no x ↦
+        let kept = says-not l s x in
+        rw (no-more l ls x) (lines-planned ls (takenFrame s (bytesOf (l .text))) (kept .0 ∙ engine) (kept .1 ∙ limit))
+  ])
+
+-- 8.4: every text is read so, with engine 1 and limit 1000000 for an 04 left out
+pub read-planned : (text : List ℕ) → PlannedBy 1 1000000 (limitsIn (lines text)) (readProblem text)
+unfolding readWithin
+read-planned text = or-planned 1 1000000 _ (unless (leb (length text) 1024) 20 0) (readLines start (lines text)) (λ z. lines-planned 1 1000000 (lines text) start refl refl)
+
+-- so a problem without an 04 has engine 1 and limit 1000000
+pub left-out-quick : (text : List ℕ) (m : ℕ) (ts : List Task) (e b : ℕ) → readProblem text ≡ problem m ts e b → limitsIn (lines text) ≡ [] → readProblem text ≡ problem m ts 1 1000000
+left-out-quick text m ts e b reads none = reads ∙ only (subst (PlannedBy 1 1000000 []) reads (rw none at (read-planned text)))
+  where
+    only : {e b : ℕ} → PlannedBy 1 1000000 [] (problem m ts e b) → problem m ts e b ≡ problem m ts 1 1000000
+    only left-out = refl
