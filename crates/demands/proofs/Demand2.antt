@@ -78,7 +78,7 @@ pub text-plans : (text out : List ℕ) (r : ℕ) (out′ : List ℕ) → PlanTex
 text-plans text out r out′ call l m ts e b reads sound engine =
     (search m ts e b (replicate 4096 0), searches m ts e b (replicate 4096 0) sound engine (room m ts sound), text-writes text out r out′ call l m ts e b reads)
 
--- quick unless told otherwise: where the text has no 04, by engine 1 with limit 1000000
+-- quick unless told otherwise: for a text without an 04 that holds a sound list they are those of engine 1 with limit 1000000
 pub quick-unless-told : (text out : List ℕ) (r : ℕ) (out′ : List ℕ) → PlanText text out r out′ → 15376 ≤ length out
     → (m : ℕ) (ts : List Task) (e b : ℕ) → readProblem text ≡ problem m ts e b → limitsIn (lines text) ≡ [] → IsSound m ts
     → (s : Searched) × Searches (ownInstance m ts) (walked 1 (ownInstance m ts)) 1000000 (replicate 4096 0) s × WritesAnswer m ts s out r out′

@@ -25,7 +25,7 @@ abbrev pub limitsIn : List Line → List (List ℕ)
 limitsIn [] = []
 limitsIn (l ∷ ls) = cond (eqb (nth (bytesOf (l .text)) 0) 4) (bytesOf (l .text) ∷ limitsIn ls) (limitsIn ls)
 
--- what a text with these 04 frames is read as: a problem with engine e and limit b if there is none, with those of the 04 if there is one; else it is refused
+-- what a text with these 04 frames is read as, unless it is refused: a problem with engine e and limit b if there is none, with its own if there is one; with more it is refused
 pub data PlannedBy (e b : ℕ) : List (List ℕ) → Read → Type 0 where
   no-problem : {fs : List (List ℕ)} {k : ℕ} → PlannedBy e b fs (refused k)
   left-out : {m : ℕ} {ts : List Task} → PlannedBy e b [] (problem m ts e b)
@@ -75,9 +75,9 @@ behind-limit : (last kind : ℕ) → last ≡ 4 → mayFollow last kind ≡ true
 unfolding mayFollow
 behind-limit last kind k e = eqb-true kind 7 (rw k at e)
 
-behind-end : (last kind : ℕ) → last ≡ 7 → mayFollow last kind ≡ true → kind ≡ 7
+behind-end : (last kind : ℕ) → last ≡ 7 → mayFollow last kind ≡ true → ⊥
 unfolding mayFollow
-behind-end last kind k e = absurd (false≢true (rw k at e))
+behind-end last kind k e = false≢true (rw k at e)
 
 module _ (e b : ℕ) where
   -- where only an 07 may follow, no 04 does
@@ -89,7 +89,7 @@ module _ (e b : ℕ) where
       let kind : nth (bytesOf (l .text)) 0 ≡ 7 = ends _ (both-pass _ _ place .0) in
       let other : nth (bytesOf (l .text)) 0 ≢ 4 = λ q. omega arith in
       let kept = says-not l s other in
-      rw (no-more l ls other) (only-end f ls (takenFrame s (bytesOf (l .text))) (kept .0 ∙ engine) (kept .1 ∙ limit) (λ next. behind-end _ next kind)))
+      rw (no-more l ls other) (only-end f ls (takenFrame s (bytesOf (l .text))) (kept .0 ∙ engine) (kept .1 ∙ limit) (λ next q. absurd (behind-end _ next kind q))))
 
   -- the lines from any state on
   lines-planned : (ls : List Line) (s : Reading) → s .engine ≡ e → s .limit ≡ b → PlannedBy e b (limitsIn ls) (readLines s ls)
@@ -104,7 +104,7 @@ module _ (e b : ℕ) where
         rw (no-more l ls x) (lines-planned ls (takenFrame s (bytesOf (l .text))) (kept .0 ∙ engine) (kept .1 ∙ limit))
   ])
 
--- 8.4: every text is read so, with engine 1 and limit 1000000 for an 04 left out
+-- RULES 8.4: every text is read so, with engine 1 and limit 1000000 for an 04 left out
 pub read-planned : (text : List ℕ) → PlannedBy 1 1000000 (limitsIn (lines text)) (readProblem text)
 unfolding readWithin
 read-planned text = or-planned 1 1000000 _ (unless (leb (length text) 1024) 20 0) (readLines start (lines text)) (λ z. lines-planned 1 1000000 (lines text) start refl refl)
