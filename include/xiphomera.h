@@ -120,7 +120,7 @@ static inline unsigned xiphomera_c(uint64_t answer) { return (uint16_t)answer; }
 
 /* Writes the text of the answer to the text of a problem and gives its bytes; gives 0 and writes nothing if `out` is
  * shorter than the longest answer. A problem without a 04 line is searched with engine 1 and at most 1000000 tries.
- * Stack: at most 667,992. */
+ * Stack: at most 667,976. */
 size_t xiphomera_plan_text(const uint8_t *text, size_t text_length, uint8_t *out, size_t out_length);
 
 #ifdef __cplusplus
