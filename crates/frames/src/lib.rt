@@ -25,9 +25,10 @@ const NO_FRAME: u8 = 0;
 // A file over this is refused.
 const MAX_TEXT: usize = 1024;
 
-// The engine and the limit where 04 is left out (RULES 8.4).
+// The engine where 04 is left out (RULES 8.4).
 const ENGINE_LEFT_OUT: u8 = 1;
 
+// The limit where 04 is left out.
 const LIMIT_LEFT_OUT: u32 = 1000000;
 
 // The refusal of a text that is too long (RULES 8.5).
