@@ -3,5 +3,6 @@ pub mod LimitLaws
 mod PlaceLaws
 pub mod ProblemLaws
 mod ReachLaws
+mod ReadLaws
 mod TaskLaws
 pub mod Calls

@@ -1,6 +1,6 @@
 -- Quick unless told otherwise: the engine and the limit that a text is read with, by its 04 frames. The words come first.
 -- Assumes nothing.
-use Prim.Native.Nat.{ℕ, zero, suc}
+use Prim.Native.Nat.{ℕ}
 use native.Mathlib.Decide.{ℕ-discrete}
 use native.Mathlib.Omega.{arith}
 use mathlib.Core.Path.{_≡_, refl, subst, _∙_}
@@ -8,16 +8,14 @@ use mathlib.Core.Logic.{_≢_}
 use mathlib.Core.Bool.{true, cond, false≢true}
 use mathlib.Core.List.{List, [], _∷_}
 use borrow.Author.Tests.{eqb-true, eq-eqb, ne-eqb}
-use lib.Dec.{leb, eqb}
-use lib.ListN.{length}
+use lib.Dec.{eqb}
 use Rattle.laws.specs.Lists.{nth}
 use Rattle.tasks.specs.declared.Task.{Task}
-use Rattle.tasks.specs.Refusal.{unless}
 use Rattle.lines.specs.Frame.{four}
 use Rattle.lines.specs.Lines.{Line, bytesOf, lines}
-use Rattle.lines.specs.Refusal.{lineRefusal}
-use Rattle.lines.proofs.RefusalLaws.{both-pass, unless-none}
-use Rattle.frames.specs.Read.{Read, refused, problem, Reading, said, start, mayFollow, inPlace, takenFrame, placeRefusal, orRead, readLines, readWithin, readProblem}
+use Rattle.lines.proofs.RefusalLaws.{both-pass}
+use Rattle.frames.specs.Read.{Read, refused, problem, Reading, start, mayFollow, inPlace, takenFrame, readLines, readProblem}
+use Rattle.frames.proofs.ReadLaws.{end-read, line-read, text-read}
 
 -- ---- words
 -- the 04 frames among the lines of a text
@@ -32,25 +30,6 @@ pub data PlannedBy (e b : ℕ) : List (List ℕ) → Read → Type 0 where
   told : {m : ℕ} {ts : List Task} {f : List ℕ} → PlannedBy e b (f ∷ []) (problem m ts (nth f 1) (four f 2))
 
 -- ---- laws
--- what is refused holds no problem
-or-planned : (e b : ℕ) (fs : List (List ℕ)) (k : ℕ) (r : Read) → (k ≡ 0 → PlannedBy e b fs r) → PlannedBy e b fs (orRead k r)
-or-planned e b fs zero r h = h refl
-or-planned e b fs (suc k) r h = no-problem
-
--- the last line has been read
-end-planned : (e b : ℕ) (fs : List (List ℕ)) (s : Reading) → PlannedBy e b fs (said s) → PlannedBy e b fs (readLines s [])
-unfolding readLines
-end-planned e b fs s h = or-planned e b fs (unless (eqb (nth (s .last) 0) 7) 24 0) (said s) (λ z. h)
-
--- a line that passes stands in its place
-line-planned : (e b : ℕ) (fs : List (List ℕ)) (l : Line) (ls : List Line) (s : Reading)
-    → (inPlace (nth (s .last) 0) (length (s .tasks)) (bytesOf (l .text)) ≡ true → PlannedBy e b fs (readLines (takenFrame s (bytesOf (l .text))) ls))
-    → PlannedBy e b fs (readLines s (l ∷ ls))
-unfolding readLines placeRefusal
-line-planned e b fs l ls s h =
-    or-planned e b fs (lineRefusal l) _ (λ z.
-    or-planned e b fs (placeRefusal s (bytesOf (l .text))) (readLines (takenFrame s (bytesOf (l .text))) ls) (λ q. h (unless-none _ 24 0 (omega arith) q .0)))
-
 -- an 04 says engine and limit, no other frame does
 module _ (l : Line) where
   abbrev frame : List ℕ
@@ -84,8 +63,8 @@ module _ (e b : ℕ) where
   only-end : (f : List ℕ) (ls : List Line) (s : Reading) → s .engine ≡ nth f 1 → s .limit ≡ four f 2 → ((kind : ℕ) → mayFollow (nth (s .last) 0) kind ≡ true → kind ≡ 7)
       → PlannedBy e b (f ∷ limitsIn ls) (readLines s ls)
   unfolding inPlace takenFrame
-  only-end f [] s engine limit ends = end-planned e b (f ∷ []) s (rw (engine, limit) told)
-  only-end f (l ∷ ls) s engine limit ends = line-planned e b _ l ls s (λ place.
+  only-end f [] s engine limit ends = end-read (PlannedBy e b (f ∷ [])) (λ k l h. no-problem) s (rw (engine, limit) told)
+  only-end f (l ∷ ls) s engine limit ends = line-read (PlannedBy e b _) (λ k l h. no-problem) l ls s (λ place.
       let kind : nth (bytesOf (l .text)) 0 ≡ 7 = ends _ (both-pass _ _ place .0) in
       let other : nth (bytesOf (l .text)) 0 ≢ 4 = λ q. omega arith in
       let kept = says-not l s other in
@@ -94,8 +73,8 @@ module _ (e b : ℕ) where
   -- the lines from any state on
   lines-planned : (ls : List Line) (s : Reading) → s .engine ≡ e → s .limit ≡ b → PlannedBy e b (limitsIn ls) (readLines s ls)
   unfolding takenFrame
-  lines-planned [] s engine limit = end-planned e b [] s (rw (engine, limit) left-out)
-  lines-planned (l ∷ ls) s engine limit = line-planned e b _ l ls s (λ place. elim (ℕ-discrete (nth (bytesOf (l .text)) 0) 4) [
+  lines-planned [] s engine limit = end-read (PlannedBy e b []) (λ k l h. no-problem) s (rw (engine, limit) left-out)
+  lines-planned (l ∷ ls) s engine limit = line-read (PlannedBy e b _) (λ k l h. no-problem) l ls s (λ place. elim (ℕ-discrete (nth (bytesOf (l .text)) 0) 4) [
     | yes k ↦
         let own = says l s k in
         rw (one-more l ls k) (only-end (bytesOf (l .text)) ls (takenFrame s (bytesOf (l .text))) (own .0) (own .1) (λ next. behind-limit _ next k))
@@ -106,8 +85,7 @@ module _ (e b : ℕ) where
 
 -- RULES 8.4: every text is read so, with engine 1 and limit 1000000 for an 04 left out
 pub read-planned : (text : List ℕ) → PlannedBy 1 1000000 (limitsIn (lines text)) (readProblem text)
-unfolding readWithin
-read-planned text = or-planned 1 1000000 _ (unless (leb (length text) 1024) 20 0) (readLines start (lines text)) (λ z. lines-planned 1 1000000 (lines text) start refl refl)
+read-planned text = text-read (PlannedBy 1 1000000 _) (λ k l h. no-problem) text (lines-planned 1 1000000 (lines text) start refl refl)
 
 -- so a problem without an 04 has engine 1 and limit 1000000
 pub left-out-quick : (text : List ℕ) (m : ℕ) (ts : List Task) (e b : ℕ) → readProblem text ≡ problem m ts e b → limitsIn (lines text) ≡ [] → readProblem text ≡ problem m ts 1 1000000
