@@ -105,7 +105,7 @@ uint64_t xiphomera_check(const xiphomera_task *tasks, size_t count, uint32_t cor
 enum {
     XIPHOMERA_VALID = 0,        /* a, b and c are 0 */
     XIPHOMERA_FAULTY_CELL = 1,  /* slot, core, kind: 1 unknown task number, 2 task closed, 3 rate 0, 4 already in this slot */
-    XIPHOMERA_FAULTY_JOB = 2,   /* task, job, kind: 5 too little work, 6 too much */
+    XIPHOMERA_FAULTY_JOB = 2,   /* task, job, kind: 5 too little work, 6 a cell after the job was complete */
     XIPHOMERA_REFUSED = 3       /* 0, 0, the verdict: 1 to 8 or 10 */
 };
 static inline unsigned xiphomera_class(uint64_t answer) { return (unsigned)(answer >> 48); }

@@ -35,6 +35,9 @@ typedef struct {
 /* One task (2,2,2,3) on one core: its table is 1 0 1. */
 static const problem P2 = {{{2, 2, 2, 3, {1}}}, 1, 1, {1, 0, 1}, 3};
 
+/* One task (0,3,2,2) on one core of rate 2: its table is 1 1. */
+static const problem P6 = {{{0, 3, 2, 2, {2}}}, 1, 1, {1, 1}, 2};
+
 /* One task (0,1,1,1) that only core 4 can run. */
 static const problem FOUR = {{{0, 1, 1, 1, {0, 0, 0, 1}}}, 1, 4, {0, 0, 0, 1}, 4};
 
@@ -215,6 +218,10 @@ static void checks_tables(void) {
     expect(checks(p, XIPHOMERA_FAULTY_CELL, 1, 1, 2), "P11: slot 1, core 1, kind 2");
     p.table[1] = p.table[2] = 0;
     expect(checks(p, XIPHOMERA_FAULTY_JOB, 1, 0, 5), "P12: task 1, job 0, kind 5");
+    p = P6;
+    expect(checks(p, XIPHOMERA_VALID, 0, 0, 0), "P6's table is valid");
+    p.tasks[0].work = 2;
+    expect(checks(p, XIPHOMERA_FAULTY_JOB, 1, 0, 6), "a cell after the job was complete: task 1, job 0, kind 6");
     p.cores = 257;
     expect(checks(p, XIPHOMERA_REFUSED, 0, 0, XIPHOMERA_BAD_CORES), "a check on 257 cores is refused by 2");
     p.count = 0;

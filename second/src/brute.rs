@@ -68,6 +68,23 @@ fn done(problem: &Problem, h: usize, cells: &[u8], number: u8, job: usize) -> u1
         .sum()
 }
 
+/// Whether the cells do at least the work of a job of task `number`.
+fn complete(problem: &Problem, h: usize, cells: &[u8], number: u8, job: usize) -> bool {
+    done(problem, h, cells, number, job) >= problem.tasks[number as usize - 1].work
+}
+
+/// Condition C4 for a job of task `number`: its cells do at least its work, and none of them stands
+/// where the earlier ones have done it.
+fn met(problem: &Problem, h: usize, table: &[u8], number: u8, job: usize) -> bool {
+    let task = &problem.tasks[number as usize - 1];
+    let of_job =
+        |&at: &usize| table[at] == number && job_at(task, h, at / problem.cores()) == Some(job);
+    complete(problem, h, table, number, job)
+        && (0..table.len())
+            .filter(of_job)
+            .all(|at| !complete(problem, h, &table[..at], number, job))
+}
+
 /// Conditions C1, C3 and C4.
 fn valid(problem: &Problem, h: usize, table: &[u8]) -> bool {
     let numbered = || (1..).zip(&problem.tasks);
@@ -87,12 +104,11 @@ fn valid(problem: &Problem, h: usize, table: &[u8]) -> bool {
     let at_most_once = table.chunks(problem.cores()).all(|in_slot| {
         numbered().all(|(number, _)| in_slot.iter().filter(|&&cell| cell == number).count() <= 1)
     });
-    let work_done = || {
-        numbered().all(|(number, task)| {
-            jobs(task, h).all(|job| done(problem, h, table, number, job) == task.work)
-        })
+    let all_met = || {
+        numbered()
+            .all(|(number, task)| jobs(task, h).all(|job| met(problem, h, table, number, job)))
     };
-    open_and_able && at_most_once && work_done()
+    open_and_able && at_most_once && all_met()
 }
 
 /// Whether the engine puts down these cells, if it does not end before.
@@ -119,7 +135,7 @@ fn settled(problem: &Problem, h: usize, before: &[u8]) -> bool {
                         .max()
                         .is_some_and(|last| last + 1 == slots)
                 })
-                .all(|job| done(problem, h, before, number, job) == task.work)
+                .all(|job| complete(problem, h, before, number, job))
         })
 }
 
@@ -132,22 +148,23 @@ fn permitted(problem: &Problem, h: usize, before: &[u8], value: u8) -> bool {
         before.len() / problem.cores(),
         before.len() % problem.cores(),
     );
-    let rate = task.rates[core];
     job_at(task, h, slot).is_some_and(|job| {
-        rate > 0
+        task.rates[core] > 0
             && !before[before.len() - core..].contains(&value)
-            && done(problem, h, before, value, job) + u16::from(rate) <= task.work
+            && !complete(problem, h, before, value, job)
     })
+}
+
+/// Whether all positive rates of a task are equal.
+fn even(task: &Task) -> bool {
+    let positive = || task.rates.iter().filter(|&&rate| rate > 0);
+    positive().min() == positive().max()
 }
 
 /// Rules A and B of the quick walk.
 fn left_out(problem: &Problem, h: usize, before: &[u8], value: u8) -> bool {
     let core = before.len() % problem.cores();
     let in_slot = &before[before.len() - core..];
-    let even = |task: &Task| {
-        let positive = || task.rates.iter().filter(|&&rate| rate > 0);
-        positive().min() == positive().max()
-    };
     let rule_a = value == 0
         && (1..)
             .zip(&problem.tasks)
@@ -165,7 +182,7 @@ fn left_out(problem: &Problem, h: usize, before: &[u8], value: u8) -> bool {
 #[cfg(test)]
 mod tests {
     use super::*;
-    use crate::check::first_fault;
+    use crate::check::{first_fault, Fault, Kind};
     use crate::lists;
     use crate::random::Random;
     use crate::verdict::Ending;
@@ -175,10 +192,22 @@ mod tests {
     fn both_walks_agree_with_brute_force() {
         let mut random = Random::new(2);
         let mut found = 0;
-        for _ in 0..3000 {
+        // Jobs that do more than their work: by unequal rates, and by windows round the end.
+        let mut uneven = [[0; 2]; 2];
+        for _ in 0..10_000 {
             let (mut problem, h) = lists::tiny(&mut random);
             let first = first(&problem, h);
-            found += u32::from(first.is_some());
+            if let Some(first) = &first {
+                found += 1;
+                for (number, task) in (1..).zip(&problem.tasks) {
+                    for job in jobs(task, h) {
+                        if done(&problem, h, first, number, job) > task.work {
+                            let round = !window(task, h, job).is_sorted();
+                            uneven[usize::from(!even(task))][usize::from(round)] += 1;
+                        }
+                    }
+                }
+            }
             for engine in [0, 1] {
                 problem.engine = engine;
                 let mut table = vec![0; h * problem.cores()];
@@ -198,7 +227,11 @@ mod tests {
                 assert_eq!(outcome.tries as usize, tries, "{problem:?}");
             }
         }
-        assert!((500..2500).contains(&found), "{found}");
+        assert!((2000..8000).contains(&found), "{found}");
+        assert!(
+            uneven.as_flattened().iter().all(|&jobs| jobs > 30),
+            "{uneven:?}"
+        );
     }
 
     #[test]
@@ -208,11 +241,17 @@ mod tests {
             let (problem, h) = lists::tiny(&mut random);
             for table in every(&problem, h * problem.cores()) {
                 let fault = first_fault(&problem, &table).unwrap();
-                assert_eq!(
-                    fault.is_none(),
-                    valid(&problem, h, &table),
-                    "{problem:?} {table:?}"
-                );
+                let told = || format!("{problem:?} {table:?} {fault:?}");
+                assert_eq!(fault.is_none(), valid(&problem, h, &table), "{}", told());
+                if let Some(Fault::Job { task, job, kind }) = fault {
+                    let too_little = !complete(&problem, h, &table, task as u8, job);
+                    assert_eq!(kind == Kind::TooLittle, too_little, "{}", told());
+                    let unmet = (1..)
+                        .zip(&problem.tasks)
+                        .flat_map(|(number, task)| jobs(task, h).map(move |job| (number, job)))
+                        .find(|&(number, job)| !met(&problem, h, &table, number, job));
+                    assert_eq!(unmet, Some((task as u8, job)), "{}", told());
+                }
             }
         }
     }

@@ -10,7 +10,7 @@ pub enum Kind {
     RateZero = 3,
     Twice = 4,
     TooLittle = 5,
-    TooMuch = 6,
+    AfterComplete = 6,
 }
 
 /// A fault in a cell or in a job. Slots and jobs are numbered from 0, cores and tasks from 1.
@@ -55,20 +55,26 @@ fn cell_fault(problem: &Problem, table: &[u8], h: usize) -> Option<Fault> {
     None
 }
 
-/// The first fault of a job, in a table whose cells have none.
+/// The first fault of a job, in a table whose cells have none. If a cell stands where the job was
+/// complete, so does the job's last.
 fn job_fault(problem: &Problem, table: &[u8], h: usize) -> Option<Fault> {
     for (task, number) in problem.tasks.iter().zip(1..) {
-        let mut done = vec![0; h / task.period as usize];
+        // By job: the units that its cells do, and those of the last cell.
+        let mut jobs = vec![(0, 0); h / task.period as usize];
         for (slot, cells) in table.chunks(problem.cores()).enumerate() {
             if let Some(core) = cells.iter().position(|&cell| cell as usize == number) {
-                done[task.job(slot, h)] += u16::from(task.rates[core]);
+                let (done, last) = &mut jobs[task.job(slot, h)];
+                *last = u16::from(task.rates[core]);
+                *done += *last;
             }
         }
-        if let Some(job) = done.iter().position(|&done| done != task.work) {
-            let kind = if done[job] < task.work {
+        for (job, (done, last)) in jobs.into_iter().enumerate() {
+            let kind = if done < task.work {
                 Kind::TooLittle
+            } else if done - last >= task.work {
+                Kind::AfterComplete
             } else {
-                Kind::TooMuch
+                continue;
             };
             return Some(Fault::Job {
                 task: number,
@@ -78,4 +84,40 @@ fn job_fault(problem: &Problem, table: &[u8], h: usize) -> Option<Fault> {
         }
     }
     None
+}
+
+#[cfg(test)]
+mod tests {
+    use super::*;
+    use crate::tasks::Task;
+
+    /// A job whose window is slot 1, then slot 0.
+    #[test]
+    fn a_job_goes_in_table_order() {
+        let problem = Problem {
+            tasks: vec![Task {
+                offset: 1,
+                work: 2,
+                deadline: 2,
+                period: 2,
+                rates: [1, 2, 0, 0],
+            }],
+            cores: 2,
+            engine: 0,
+            limit: 0,
+        };
+        let kinds = [
+            ([1, 0, 0, 0], Some(Kind::TooLittle)),
+            ([1, 0, 1, 0], None),
+            ([0, 1, 0, 0], None),
+            ([1, 0, 0, 1], None),
+            ([0, 1, 1, 0], Some(Kind::AfterComplete)),
+            ([0, 1, 0, 1], Some(Kind::AfterComplete)),
+        ];
+        for (table, kind) in kinds {
+            let (task, job) = (1, 0);
+            let fault = kind.map(|kind| Fault::Job { task, job, kind });
+            assert_eq!(first_fault(&problem, &table), Ok(fault), "{table:?}");
+        }
+    }
 }

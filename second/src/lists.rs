@@ -151,7 +151,8 @@ pub fn from_table(random: &mut Random, most_rate: usize) -> Problem {
                 }
             }
             cells += taken * jobs;
-            task.work = (taken * rates[core] as usize) as u16;
+            let rate = rates[core] as usize;
+            task.work = (taken * rate - random.below(rate)) as u16;
             tasks.push(task);
         }
     }
@@ -214,7 +215,8 @@ fn sound(random: &mut Random, slots: usize, most_tasks: usize, most_cores: usize
     }
 }
 
-/// A task that takes about its share of the cores, most often with work that its rates can do.
+/// A task that takes about its share of the cores, most often with work that its rates can do; the
+/// last slot need not come out even.
 fn task(random: &mut Random, slots: usize, count: usize, cores: usize, most_rate: usize) -> Task {
     let mut rates = [0; MOST_CORES];
     rates[..cores].fill(random.between(1, most_rate) as u8);
@@ -232,9 +234,10 @@ fn task(random: &mut Random, slots: usize, count: usize, cores: usize, most_rate
         random.between(1, period)
     };
     let share = deadline * cores * random.between(1, 4) / (2 * count);
-    let work: usize = (0..random.between(1, share.clamp(1, deadline)))
+    let units: usize = (0..random.between(1, share.clamp(1, deadline)))
         .map(|_| rates[random.below(cores)] as usize)
         .sum();
+    let work = (units + usize::from(random.once_in(8))).saturating_sub(random.below(most_rate));
     let offset = match random.below(4) {
         0 => 0,
         1 | 2 => random.below(slots),
@@ -242,7 +245,7 @@ fn task(random: &mut Random, slots: usize, count: usize, cores: usize, most_rate
     };
     Task {
         offset: offset as u16,
-        work: (work + usize::from(random.once_in(8))).clamp(1, 4096) as u16,
+        work: work.clamp(1, 4096) as u16,
         deadline: deadline as u16,
         period: period as u16,
         rates,
@@ -293,24 +296,29 @@ fn spoil(random: &mut Random, problem: &mut Problem) {
     }
 }
 
-/// A table for the checker and the player: valid, with one cell changed, of open tasks, or junk;
-/// now and then too short, or longer than need be.
+/// A table for the checker and the player: valid, with one cell changed, cleared or filled, of open
+/// tasks, or junk; now and then too short, or longer than need be.
 pub fn table(random: &mut Random, problem: &Problem) -> Vec<u8> {
     let cells = problem.h().map_or(9, |h| h * problem.cores());
     let mut table = vec![0; cells];
     match (random.below(8), problem.h()) {
         (0, _) | (_, Err(_)) => fill_with_junk(random, problem, &mut table),
         (1, Ok(h)) => fill_with_open_tasks(random, problem, h, &mut table),
-        (choice, Ok(_)) => {
+        (choice, Ok(h)) => {
             let quick = Problem {
                 engine: 1,
                 limit: USUAL,
                 ..problem.clone()
             };
             search(&quick, &mut table).expect("the list is sound");
-            if choice < 5 {
-                let at = random.below(cells);
-                fill_with_junk(random, problem, &mut table[at..=at]);
+            match choice {
+                2 => {
+                    let at = random.below(cells);
+                    fill_with_junk(random, problem, &mut table[at..=at]);
+                }
+                3 => clear_a_cell(random, &mut table),
+                4 => fill_a_cell(random, problem, h, &mut table),
+                _ => {}
             }
         }
     }
@@ -328,15 +336,41 @@ fn fill_with_junk(random: &mut Random, problem: &Problem, cells: &mut [u8]) {
 }
 
 fn fill_with_open_tasks(random: &mut Random, problem: &Problem, h: usize, table: &mut [u8]) {
-    for (slot, cells) in table.chunks_mut(problem.cores()).enumerate() {
-        for core in 0..cells.len() {
-            let at = random.below(problem.tasks.len());
-            let (task, number) = (&problem.tasks[at], at as u8 + 1);
-            if task.open(slot, h) && task.rates[core] > 0 && !cells.contains(&number) {
-                cells[core] = number;
-            }
+    for at in 0..table.len() {
+        let number = random.between(1, problem.tasks.len()) as u8;
+        if without_fault(problem, h, table, at, number) {
+            table[at] = number;
         }
     }
+}
+
+/// Clears a cell with a task, if there is one: most often its job is left with too little work.
+fn clear_a_cell(random: &mut Random, table: &mut [u8]) {
+    let taken: Vec<usize> = (0..table.len()).filter(|&at| table[at] > 0).collect();
+    if !taken.is_empty() {
+        table[random.pick(&taken)] = 0;
+    }
+}
+
+/// Puts a task into an idle cell, if it may stand in one: in a valid table its job most often gets
+/// a cell after it was complete.
+fn fill_a_cell(random: &mut Random, problem: &Problem, h: usize, table: &mut [u8]) {
+    let number = random.between(1, problem.tasks.len()) as u8;
+    let idle: Vec<usize> = (0..table.len())
+        .filter(|&at| table[at] == 0 && without_fault(problem, h, table, at, number))
+        .collect();
+    if !idle.is_empty() {
+        table[random.pick(&idle)] = number;
+    }
+}
+
+/// Whether a task would stand in a cell without a fault of its own.
+fn without_fault(problem: &Problem, h: usize, table: &[u8], at: usize, number: u8) -> bool {
+    let (slot, core) = (at / problem.cores(), at % problem.cores());
+    let task = &problem.tasks[number as usize - 1];
+    task.open(slot, h)
+        && task.rates[core] > 0
+        && !table[slot * problem.cores()..][..problem.cores()].contains(&number)
 }
 
 /// A player's record; one in three is spoilt.

@@ -132,14 +132,12 @@ fn p6() {
         rates: [2, 0, 0, 0],
         ..task([0, 3, 2, 2], 1)
     }];
-    assert_eq!(
-        searched(&unlimited(&tasks, 1, PLAIN)),
-        (Ending::None, 5, vec![0; 2])
-    );
-    assert_eq!(
-        searched(&unlimited(&tasks, 1, QUICK)),
-        (Ending::None, 2, vec![0; 2])
-    );
+    for engine in [PLAIN, QUICK] {
+        assert_eq!(
+            searched(&unlimited(&tasks, 1, engine)),
+            (Ending::Found, 2, vec![1, 1])
+        );
+    }
 }
 
 #[test]

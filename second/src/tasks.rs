@@ -8,7 +8,7 @@ pub const MOST_SLOTS: usize = 1024;
 pub const MOST_CELLS: usize = MOST_SLOTS * MOST_CORES;
 const MOST_OFFSET: u16 = 1023;
 const MOST_WORK: u16 = 4096;
-pub const MOST_RATE: u8 = 15;
+const MOST_RATE: u8 = 15;
 
 /// A task, laid out as C has it; its rates are those of the four cores, 0 where it cannot run.
 #[repr(C)]

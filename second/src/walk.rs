@@ -4,7 +4,7 @@
 //! is worked out once per slot for all its cells: a task put into one of them changes nothing for
 //! the other tasks, and may not stand in the slot again.
 
-use crate::tasks::{Problem, Task, MOST_CORES, MOST_RATE, MOST_TASKS};
+use crate::tasks::{Problem, Task, MOST_CORES, MOST_TASKS};
 use crate::verdict::{Ending, Refusal};
 use std::ops::Range;
 
@@ -51,9 +51,6 @@ type Values = u32;
 /// Four sets of tasks, one a core, core 1 in the lowest 16 bits.
 type Sets = u64;
 
-/// With this much work left, or more, every rate is small enough.
-const AMPLE: usize = MOST_RATE as usize;
-
 struct Slot {
     open: Values,
     /// The job counter of each open task. Counter 0 is no job's; idle has it.
@@ -62,19 +59,21 @@ struct Slot {
     ending: Range<u16>,
 }
 
-/// What stands in a cell, what is still to try there, and the values on earlier cores of its slot.
+/// What stands in a cell, what is still to try there, the values on earlier cores of its slot, and
+/// the work that was left of its job.
 #[derive(Clone, Copy, Default)]
 struct Cell {
     value: Value,
     rest: Values,
     used: Values,
+    left: u16,
 }
 
 struct Walk {
     cores: usize,
     rates: [[u16; VALUES]; MOST_CORES],
-    /// By task and work left: the task's bit, for each core whose rate is positive and fits.
-    fits: [[Sets; AMPLE + 1]; MOST_TASKS],
+    /// By task: the task's bit, for each core whose rate is positive.
+    able: [Sets; MOST_TASKS],
     /// Rule A: the tasks whose positive rates are all equal; none for the plain walk.
     even: Values,
     /// Rule B: the nearest earlier twin of each core; none for the plain walk.
@@ -94,7 +93,7 @@ impl Walk {
         let mut walk = Walk {
             cores,
             rates: [[0; VALUES]; MOST_CORES],
-            fits: [[0; AMPLE + 1]; MOST_TASKS],
+            able: [0; MOST_TASKS],
             even: 0,
             twin: [None; MOST_CORES],
             permitted: vec![0; slots.len()],
@@ -105,9 +104,7 @@ impl Walk {
         for (i, task) in tasks.iter().enumerate() {
             for (core, &rate) in task.rates.iter().enumerate().filter(|(_, &rate)| rate > 0) {
                 walk.rates[core][i] = rate.into();
-                for left in rate.into()..=AMPLE {
-                    walk.fits[i][left] |= 1 << (core * MOST_TASKS + i);
-                }
+                walk.able[i] |= 1 << (core * MOST_TASKS + i);
             }
         }
         if problem.engine == 1 {
@@ -143,7 +140,7 @@ impl Walk {
                 core -= 1;
                 cell -= 1;
                 let before = self.cells[cell];
-                *self.work_left(slot, before.value) += self.rates[core][before.value as usize];
+                *self.work_left(slot, before.value) = before.left;
                 (rest, used) = (before.rest, before.used);
                 continue;
             }
@@ -154,14 +151,21 @@ impl Walk {
             let value = rest.trailing_zeros();
             rest &= rest - 1;
             let rate = self.rates[core][value as usize];
-            *self.work_left(slot, value) -= rate;
+            let work_left = self.work_left(slot, value);
+            let left = *work_left;
+            *work_left = left.saturating_sub(rate);
             let last = core + 1 == self.cores;
             if last && self.unfinished(slot) {
                 // Back at once, to the next value of this cell.
-                *self.work_left(slot, value) += rate;
+                *self.work_left(slot, value) = left;
                 continue;
             }
-            self.cells[cell] = Cell { value, rest, used };
+            self.cells[cell] = Cell {
+                value,
+                rest,
+                used,
+                left,
+            };
             cell += 1;
             if last {
                 slot += 1;
@@ -188,8 +192,9 @@ impl Walk {
         while rest > 0 {
             let task = rest.trailing_zeros() as usize;
             rest &= rest - 1;
-            let left = self.left[counter[task] as usize];
-            permitted |= self.fits[task][AMPLE.min(left.into())];
+            if self.left[counter[task] as usize] > 0 {
+                permitted |= self.able[task];
+            }
         }
         self.permitted[slot] = permitted;
         self.choice(slot, 0, 0)

@@ -11,8 +11,8 @@ use Rattle.laws.specs.Lists.{nth}
 use Rattle.laws.proofs.SumLaws.{lt-or-ge}
 use Rattle.tasks.specs.declared.Task.{Task}
 use Rattle.tasks.specs.Refusal.{refusal, IsSound}
-use Rattle.tasks.specs.Instance.{Instance, instanceOf, ownInstance}
-use Rattle.tasks.proofs.SoundLaws.{sound-list}
+use Rattle.tasks.specs.Instance.{Instance, instanceOf, ownInstance, Regular}
+use Rattle.tasks.proofs.SoundLaws.{own-regular}
 use Rattle.table.specs.Table.{cells, Valid}
 use Rattle.table.specs.Fault.{Fault, noFault, inCell, inJob, fault, Checked, refused, checked, check}
 use Rattle.checker.specs.declared.Verdict.{Verdict}
@@ -46,15 +46,15 @@ pub record Tells (m : ℕ) (ts : List Task) (t : List ℕ) (x : Checked) : Type 
 
 -- ---- proofs
 -- what the definition names
-pub names : (P : Instance) (f : ℕ → ℕ) → 0 < P .cores → Names P f (fault P f)
-names P f some-core = record {
-  none-exact = (λ e. none-valid P f (subst (Says P f) e says), λ v. faultless P f (valid-none P f v) (fault P f) says);
+pub names : (P : Instance) (f : ℕ → ℕ) → Regular P → Names P f (fault P f)
+names P f regular = record {
+  none-exact = (λ e. none-valid P f regular (subst (Says P f) e says), λ v. faultless P f (valid-none P f v) (fault P f) says);
   first-cell = λ s j kind e. subst (Says P f) e says;
   first-job = λ i k kind e. subst (Says P f) e says;
 }
   where
     says : Says P f (fault P f)
-    says = named P f some-core
+    says = named P f (regular .some-core)
 
 -- a refusal is not a fault
 refused-not : {r : ℕ} {x : Fault} → refused r ≡ checked x → ⊥
@@ -100,7 +100,7 @@ module _ (m : ℕ) (ts : List Task) (t : List ℕ) where
     }
       where
         n : Names (ownInstance m ts) (nth t) (fault (ownInstance m ts) (nth t))
-        n = names (ownInstance m ts) (nth t) (sound-list m ts sound .some-core)
+        n = names (ownInstance m ts) (nth t) (own-regular m ts sound)
 
   -- what the checker tells, for every list, every number of cores and every buffer
   pub tells : Tells m ts t (check m ts t)

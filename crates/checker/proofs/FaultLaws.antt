@@ -12,13 +12,14 @@ use Rattle.laws.specs.Lists.{seek, firstOf}
 use Rattle.laws.proofs.SumLaws.{lt-or-ge}
 use Rattle.laws.proofs.TestLaws.{all-fails}
 use Rattle.laws.proofs.ListLaws.{seek-before, seek-some, first-none, first-zero}
-use Rattle.tasks.specs.Instance.{Instance}
+use Rattle.tasks.specs.Instance.{Instance, Regular}
 use Rattle.tasks.proofs.AnswerLaws.{unless-yes, unless-no}
 use Rattle.table.specs.Table.{cells, slotOf, coreOf, beside, done, free, Valid}
-use Rattle.table.specs.Fault.{knownKind, kindOf, cellKind, jobKind, Fault, noFault, inCell, inJob, firstJob, jobFault, fault}
-use Rattle.faults.proofs.TestLaws.{work-little, work-much, work-exact}
-use Rattle.checker.specs.Faulty.{Fine, Wrong, unknown, closed, unrated, twice, Exact, WrongWork, too-little, too-much, FirstCell, FirstJob}
-use Rattle.table.proofs.TableLaws.{beside-before, beside-slot, free-apart}
+use Rattle.table.specs.Fault.{knownKind, kindOf, cellKind, allNeeded, jobKind, Fault, noFault, inCell, inJob, firstJob, jobFault, fault}
+use Rattle.checker.specs.Faulty.{Fine, Wrong, unknown, closed, unrated, twice, Met, WrongWork, too-little, after-complete, FirstCell, FirstJob}
+use Rattle.table.proofs.JobLaws.{job-slot, slot-job}
+use Rattle.table.proofs.TableLaws.{slot-there, done-more, beside-before, beside-slot, free-apart}
+use Rattle.table.proofs.WorkLaws.{work-little, work-unneeded, work-met, all-needed, not-needed}
 
 -- a test passed or failed
 tested : (b : Bool) → T b ⊎ (T b → ⊥)
@@ -128,25 +129,32 @@ module _ (P : Instance) (f : ℕ → ℕ) where
         go (wrong k w) x = w
 
   -- ---- jobs
-  -- a job has exactly its work, or the fault of its kind
+  -- a job is met, or has the fault of its kind
   module _ (i k : ℕ) where
-    exact-job : jobKind P f i k ≡ 0 → Exact P f i k
-    exact-job e = ⊎-elim
-        (λ l. absurd (omega (arith, work-little _ _ l)))
-        (λ l. ⊎-elim (λ m. absurd (omega (arith, work-much _ _ m))) (λ m. omega arith) (lt-or-ge (P .work i) (done P (cells P) f i k)))
+    met-job : jobKind P f i k ≡ 0 → Met P f i k
+    met-job e = ⊎-elim
+        (λ l. absurd (omega (arith, work-little _ _ (allNeeded P (cells P) f i k) l)))
+        (λ l. ⊎-elim
+        (λ y. record { full = l; needed = all-needed P f (cells P) i k .0 y })
+        (λ n. absurd (omega (arith, work-unneeded _ _ (allNeeded P (cells P) f i k) l n)))
+        (tested (allNeeded P (cells P) f i k)))
         (lt-or-ge (done P (cells P) f i k) (P .work i))
 
     job-wrong : jobKind P f i k ≢ 0 → WrongWork P f i k (jobKind P f i k)
     job-wrong x = ⊎-elim
-        (λ l. subst (WrongWork P f i k) (work-little _ _ l) (too-little l))
-        (λ l. ⊎-elim (λ m. subst (WrongWork P f i k) (work-much _ _ m) (too-much m)) (λ m. absurd (x (sym (work-exact _ _ l m)))) (lt-or-ge (P .work i) (done P (cells P) f i k)))
+        (λ l. subst (WrongWork P f i k) (sym (work-little _ _ _ l)) (too-little l))
+        (λ l. ⊎-elim
+        (λ y. absurd (x (work-met _ _ _ l y)))
+        (λ n. let d = not-needed P f (cells P) i k n in
+        subst (WrongWork P f i k) (sym (work-unneeded _ _ _ l n)) (after-complete (d .0) (d .1) (d .2) (d .3) (d .4)))
+        (tested (allNeeded P (cells P) f i k)))
         (lt-or-ge (done P (cells P) f i k) (P .work i))
 
   -- ---- the first fault
   -- no cell and no job is faulty
   pub record NoneFaulty : Type 0 where
     pub cells-fine : (c : ℕ) → c < cells P → Fine P f c
-    pub jobs-exact : (i k : ℕ) → i ≢ 0 → i ≤ P .tasks → k < P .jobs i → Exact P f i k
+    pub jobs-met : (i k : ℕ) → i ≢ 0 → i ≤ P .tasks → k < P .jobs i → Met P f i k
 
   -- what a fault that is named says
   abbrev pub Says : Fault → Type 0
@@ -161,11 +169,11 @@ module _ (P : Instance) (f : ℕ → ℕ) where
     row j = firstOf (P .jobs (suc j)) (jobKind P f (suc j))
 
     -- no job of an earlier task is faulty
-    rows-exact : (i : ℕ) → i ≤ seek (P .tasks) row → (j l : ℕ) → j ≢ 0 → j ≤ i → l < P .jobs j → Exact P f j l
+    rows-met : (i : ℕ) → i ≤ seek (P .tasks) row → (j l : ℕ) → j ≢ 0 → j ≤ i → l < P .jobs j → Met P f j l
     unfolding row
-    rows-exact i h zero l x m q = absurd (x refl)
-    rows-exact i h (suc j) l x m q =
-        exact-job (suc j) l (first-zero (P .jobs (suc j)) (jobKind P f (suc j)) (seek-before (P .tasks) row j (omega arith)) l q)
+    rows-met i h zero l x m q = absurd (x refl)
+    rows-met i h (suc j) l x m q =
+        met-job (suc j) l (first-zero (P .jobs (suc j)) (jobKind P f (suc j)) (seek-before (P .tasks) row j (omega arith)) l q)
 
     job-named : Says (jobFault P f)
     unfolding firstJob row
@@ -173,7 +181,7 @@ module _ (P : Instance) (f : ℕ → ℕ) where
         (λ l. rw (lt-ltb (seek (P .tasks) row) (P .tasks) l) (found l))
         (λ l. rw (le-ltb (seek (P .tasks) row) (P .tasks) l) (record {
           cells-fine = all-fine;
-          jobs-exact = λ i k x m q. rows-exact i (omega arith) i k x (omega arith) q;
+          jobs-met = λ i k x m q. rows-met i (omega arith) i k x (omega arith) q;
         }))
         (lt-or-ge (seek (P .tasks) row) (P .tasks))
       where
@@ -193,8 +201,8 @@ module _ (P : Instance) (f : ℕ → ℕ) where
           task-in = h;
           job-in = some h;
           is-wrong = job-wrong (suc i) k (seek-some (P .jobs (suc i)) (jobKind P f (suc i)) (some h));
-          tasks-before = λ j l x m q. rows-exact i (omega arith) j l x (omega arith) q;
-          jobs-before = λ l q. exact-job (suc i) l (seek-before (P .jobs (suc i)) (jobKind P f (suc i)) l q);
+          tasks-before = λ j l x m q. rows-met i (omega arith) j l x (omega arith) q;
+          jobs-before = λ l q. met-job (suc i) l (seek-before (P .jobs (suc i)) (jobKind P f (suc i)) l q);
         }
 
   -- the fault that the definition names
@@ -222,21 +230,28 @@ module _ (P : Instance) (f : ℕ → ℕ) where
   not-fine (unrated x k o z) r = omega (arith, r .rated x)
   not-fine (twice x k o s d l q e) r = r .once x d l q e
 
-  -- a faulty job does not have exactly its work
-  not-exact : {i k kind : ℕ} → WrongWork P f i k kind → Exact P f i k → ⊥
-  not-exact (too-little l) e = omega arith
-  not-exact (too-much l) e = omega arith
+  -- a faulty job is not met
+  not-met : {i k kind : ℕ} → WrongWork P f i k kind → Met P f i k → ⊥
+  not-met (too-little l) r = omega (arith, r .full)
+  not-met (after-complete c l e s h) r = omega (arith, r .needed c l e s)
+
+  -- and a job has one kind of fault: 5 and 6 exclude each other
+  pub kind-alone : {i k a b : ℕ} → WrongWork P f i k a → WrongWork P f i k b → a ≡ b
+  kind-alone (too-little l) (too-little m) = refl
+  kind-alone {i} {k} (too-little l) (after-complete c m e s h) = absurd (omega (arith, done-more P c (cells P) f i k (omega arith)))
+  kind-alone {i} {k} (after-complete c m e s h) (too-little l) = absurd (omega (arith, done-more P c (cells P) f i k (omega arith)))
+  kind-alone (after-complete c m e s h) (after-complete c' m' e' s' h') = refl
 
   -- where nothing is faulty, no fault is named
   pub faultless : NoneFaulty → (x : Fault) → Says x → x ≡ noFault
   faultless r noFault n = refl
   faultless r (inCell s j kind) n = absurd (not-fine (n .is-wrong) (r .cells-fine (n .cell) (n .inside)))
-  faultless r (inJob i k kind) n = absurd (not-exact (n .is-wrong) (r .jobs-exact i k (n .some-task) (n .task-in) (n .job-in)))
+  faultless r (inJob i k kind) n = absurd (not-met (n .is-wrong) (r .jobs-met i k (n .some-task) (n .task-in) (n .job-in)))
 
   -- ---- valid tables
   -- a table without a fault is valid
-  pub none-valid : NoneFaulty → Valid P f
-  none-valid r = record {
+  pub none-valid : Regular P → NoneFaulty → Valid P f
+  none-valid regular r = record {
     known = λ c l. r .cells-fine c l .known;
     open-there = λ c l. r .cells-fine c l .open-there;
     rated = λ c l. r .cells-fine c l .rated;
@@ -247,7 +262,10 @@ module _ (P : Instance) (f : ℕ → ℕ) where
           (λ q. absurd (r .cells-fine c l .once y d (omega arith) (sym s) (sym e)))
           (lt-or-ge c d)
     ];
-    full = r .jobs-exact;
+    full = λ i k x l q. r .jobs-met i k x l q .full;
+    needed = λ c l x. r .jobs-met (f c) (P .job (f c) (slotOf P c)) x (r .cells-fine c l .known)
+        (regular .job-there (f c) (slotOf P c) x (r .cells-fine c l .known) (slot-there P (regular .some-core) c l))
+        .needed c l refl (job-slot P (f c) (P .job (f c) (slotOf P c)) (slotOf P c) (r .cells-fine c l .open-there x) refl);
   }
 
   -- and a valid one has no fault
@@ -259,5 +277,8 @@ module _ (P : Instance) (f : ℕ → ℕ) where
       rated = v .rated c l;
       once = λ x d m s e. x (v .once c d l (omega arith) (λ q. omega arith) (sym s) (sym e));
     };
-    jobs-exact = v .full;
+    jobs-met = λ i k x l q. record {
+      full = v .full i k x l q;
+      needed = λ c m e s. rw (e, slot-job P i k (slotOf P c) s .1) at (v .needed c m (λ z. x (sym e ∙ z)));
+    };
   }

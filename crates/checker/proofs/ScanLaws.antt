@@ -5,32 +5,34 @@ use native.Mathlib.Nat.{mod-lt}
 use native.Mathlib.Decide.{ℕ-discrete}
 use native.Mathlib.Numerals.{add-one}
 use native.Mathlib.Omega.{arith}
-use mathlib.Core.Path.{_≡_, refl, sym, ap, subst, _∙_}
+use mathlib.Core.Path.{_≡_, refl, sym, ap, ap₂, subst, _∙_}
 use mathlib.Core.Logic.{_≢_}
 use mathlib.Core.Bool.{Bool, true, false, _&&_}
 use mathlib.Core.List.{List}
-use lib.Dec.{T, eqb}
+use lib.Dec.{T, ltb}
 use lib.ListN.{set, length-set}
 use lib.Seq.{getD-set-same, getD-set-other}
 use borrow.Author.Count.{below-none, below-more}
 use borrow.Author.Tests.{lt-ltb, le-ltb}
-use Rattle.laws.specs.Sum.{gate, sum}
+use Rattle.laws.specs.Sum.{sum}
+use Rattle.laws.specs.Tests.{imp}
 use Rattle.laws.specs.Lists.{nth, seek}
-use Rattle.laws.proofs.SumLaws.{sum-le, sum-const}
+use Rattle.laws.proofs.SumLaws.{gate-yes, gate-no}
 use Rattle.laws.proofs.ListLaws.{seek-is, seek-none}
 use Rattle.tasks.specs.declared.Work.{Work}
 use Rattle.tasks.specs.declared.TaskList.{TaskList}
-use Rattle.tasks.specs.Instance.{Instance, jobSlot, instanceOf}
-use Rattle.table.specs.Table.{cells, slotOf, coreOf, share, done}
-use Rattle.table.specs.Fault.{cellKind, inCell, checked}
-use Rattle.table.proofs.JobLaws.{slot-job}
-use Rattle.table.proofs.ShareLaws.{share-own, share-other, share-none}
+use Rattle.tasks.specs.Instance.{Instance, instanceOf}
+use Rattle.table.specs.Table.{cells, slotOf, coreOf, ofJob, share, done}
+use Rattle.table.specs.Fault.{cellKind, allNeeded, inCell, checked}
+use Rattle.table.proofs.JobLaws.{job-slot, slot-job}
+use Rattle.table.proofs.ShareLaws.{of-job, is-of-job}
 use Rattle.table.proofs.TableLaws.{slot-there}
-use Rattle.faults.specs.Tests.{counterAt}
+use Rattle.faults.specs.Tests.{counterAt, unneeded, countOf, counted}
+use Rattle.faults.proofs.TestLaws.{counted-count}
 use Rattle.checker.specs.declared.Verdict.the-variants.{Valid, Cell}
 use Rattle.checker.specs.declared.Effect.{Effect}
 use Rattle.checker.specs.declared.Effect.the-variants.{Nothing, Does, Faulty}
-use Rattle.checker.specs.Checks.{checkedAs, instanceFor, Checkable, At, effectIf, effectOf, Counted, cellFault, CellsTold}
+use Rattle.checker.specs.Checks.{checkedAs, instanceFor, Checkable, At, effectIf, effectOf, jobCount, Counted, cellFault, CellsTold}
 use Rattle.checker.specs.Faulty.{Fine}
 use Rattle.checker.proofs.FaultLaws.{after, kind-idle, kind-fine}
 use Rattle.checker.proofs.CellLaws.{Small, ready-small, slot-of, core-of, cell-in}
@@ -45,59 +47,66 @@ module _ (P : Instance) (f : ℕ → ℕ) (c : ℕ) where
   -- nothing: it is idle
   nothing-is : effectOf P f c ≡ Nothing → f c ≡ 0
   unfolding effectOf
-  nothing-is = go (f c) (cellKind P f c) _ _
+  nothing-is = go (f c) (cellKind P f c) _ _ _
     where
-      go : (v k y s : ℕ) → effectIf v k y s ≡ Nothing → v ≡ 0
-      go zero k y s e = refl
-      go (suc v) zero y s e = let z : _≡_ {A = ℕ} 0 1 = cc in absurd (omega arith)
-      go (suc v) (suc k) y s e = let z : _≡_ {A = ℕ} 0 1 = cc in absurd (omega arith)
+      go : (v k y s C : ℕ) → effectIf v k y s C ≡ Nothing → v ≡ 0
+      go zero k y s C e = refl
+      go (suc v) zero y s C e = let z : _≡_ {A = ℕ} 0 1 = cc in absurd (omega arith)
+      go (suc v) (suc k) y s C e = let z : _≡_ {A = ℕ} 0 1 = cc in absurd (omega arith)
 
   -- so much work for the job of a counter: the task there has no fault
-  does-is : (x : ℕ) (w : Work) → effectOf P f c ≡ Does x w
-      → (f c ≢ 0) × (cellKind P f c ≡ 0) × (x ≡ counterAt (pred (f c)) (P .job (f c) (slotOf P c))) × (w .0 ≡ P .rate (f c) (coreOf P c))
+  does-is : (x : ℕ) (w n : Work) → effectOf P f c ≡ Does x w n
+      → (f c ≢ 0) × (cellKind P f c ≡ 0) × (x ≡ counterAt (pred (f c)) (P .job (f c) (slotOf P c))) × (w .0 ≡ P .rate (f c) (coreOf P c)) × (n .0 ≡ P .work (f c))
   unfolding effectOf
-  does-is x w = go (f c) (cellKind P f c) _ _
+  does-is x w n = go (f c) (cellKind P f c) _ _ _
     where
-      go : (v k y s : ℕ) → effectIf v k y s ≡ Does x w → (v ≢ 0) × (k ≡ 0) × (x ≡ y) × (w .0 ≡ s)
-      go zero k y s e = let z : _≡_ {A = ℕ} 0 1 = cc in absurd (omega arith)
-      go (suc v) zero y s e = (λ z. omega arith, refl, cc, cc)
-      go (suc v) (suc k) y s e = let z : _≡_ {A = ℕ} 0 1 = cc in absurd (omega arith)
+      go : (v k y s C : ℕ) → effectIf v k y s C ≡ Does x w n → (v ≢ 0) × (k ≡ 0) × (x ≡ y) × (w .0 ≡ s) × (n .0 ≡ C)
+      go zero k y s C e = let z : _≡_ {A = ℕ} 0 1 = cc in absurd (omega arith)
+      go (suc v) zero y s C e = (λ z. omega arith, refl, cc, cc, cc)
+      go (suc v) (suc k) y s C e = let z : _≡_ {A = ℕ} 0 1 = cc in absurd (omega arith)
 
   -- a fault: it is the cell's
   faulty-is : (kind : ℕ) → effectOf P f c ≡ Faulty kind → (cellKind P f c ≡ kind) × (kind ≢ 0)
   unfolding effectOf
-  faulty-is kind = go (f c) (cellKind P f c) _ _
+  faulty-is kind = go (f c) (cellKind P f c) _ _ _
     where
-      go : (v k y s : ℕ) → effectIf v k y s ≡ Faulty kind → (k ≡ kind) × (kind ≢ 0)
-      go zero k y s e = let z : _≡_ {A = ℕ} 0 1 = cc in absurd (omega arith)
-      go (suc v) zero y s e = let z : _≡_ {A = ℕ} 0 1 = cc in absurd (omega arith)
-      go (suc v) (suc k) y s e = let q : suc k ≡ kind = cc in (q, λ z. omega arith)
+      go : (v k y s C : ℕ) → effectIf v k y s C ≡ Faulty kind → (k ≡ kind) × (kind ≢ 0)
+      go zero k y s C e = let z : _≡_ {A = ℕ} 0 1 = cc in absurd (omega arith)
+      go (suc v) zero y s C e = let z : _≡_ {A = ℕ} 0 1 = cc in absurd (omega arith)
+      go (suc v) (suc k) y s C e = let q : suc k ≡ kind = cc in (q, λ z. omega arith)
 
 -- ---- the work counted
--- one cell more
-done-next : (P : Instance) (f : ℕ → ℕ) (c i k : ℕ) → done P (c + 1) f i k ≡ done P c f i k + share P i k c (f c)
-unfolding done sum
-done-next P f c i k = rw add-one
+module _ (P : Instance) (f : ℕ → ℕ) (c i k : ℕ) where
+  -- what is done with one cell more
+  done-next : done P (c + 1) f i k ≡ done P c f i k + share P i k c (f c)
+  unfolding done sum
+  done-next = rw add-one
 
--- a gate lets through no more than its term
-gate-most : (b : Bool) (x : ℕ) → gate b x ≤ x
-unfolding gate
-gate-most true x = omega arith
-gate-most false x = omega arith
+  -- and whether each cell was needed
+  needed-next : allNeeded P (c + 1) f i k ≡ allNeeded P c f i k && imp (ofJob P i k c (f c)) (ltb (done P c f i k) (P .work i))
+  unfolding allNeeded
+  needed-next = rw add-one
 
--- a cell does at most 15 units
-share-few : {P : Instance} → Small P → (i k d v : ℕ) → i ≢ 0 → i ≤ P .tasks → share P i k d v ≤ 15
-unfolding share
-share-few {P} small i k d v x l = omega (
-  arith,
-  gate-most (eqb v i && jobSlot P i k (slotOf P d)) (P .rate i (coreOf P d)),
-  small .few-units i (coreOf P d) x l (mod-lt d (small .regular .some-core)),
-)
+  -- a cell that is not of the job leaves its count as it was
+  count-other : (T (ofJob P i k c (f c)) → ⊥) → jobCount P (c + 1) f i k ≡ jobCount P c f i k
+  unfolding share
+  count-other n = ap₂ countOf (needed-next ∙ other (ofJob P i k c (f c)) _ _ n) (omega (arith, done-next, gate-no (ofJob P i k c (f c)) (P .rate i (coreOf P c)) n))
+    where
+      other : (b a x : Bool) → (T b → ⊥) → a && imp b x ≡ a
+      other true a x n = absurd (n tt)
+      other false true x n = refl
+      other false false x n = refl
 
--- so the first c cells do at most 15 units each
-done-few : {P : Instance} → Small P → (f : ℕ → ℕ) (c i k : ℕ) → i ≢ 0 → i ≤ P .tasks → done P c f i k ≤ c * 15
-unfolding done
-done-few {P} small f c i k x l = rw (sum-const c 15) at (sum-le c (λ d. share P i k d (f d)) (λ d. 15) (λ d q. share-few small i k d (f d) x l))
+  -- one that is of the job is counted
+  count-own : P .work i ≤ unneeded → T (ofJob P i k c (f c)) → counted (P .work i) (jobCount P c f i k) (P .rate i (coreOf P c)) ≡ jobCount P (c + 1) f i k
+  unfolding share
+  count-own few t =
+      counted-count (P .work i) (done P c f i k) few (allNeeded P c f i k) (P .rate i (coreOf P c))
+      ∙ sym (ap₂ countOf (needed-next ∙ own (ofJob P i k c (f c)) (allNeeded P c f i k) (ltb (done P c f i k) (P .work i)) t) (done-next ∙ ap (_+_ (done P c f i k)) (gate-yes (ofJob P i k c (f c)) (P .rate i (coreOf P c)) t)))
+    where
+      own : (b a x : Bool) → T b → a && imp b x ≡ a && x
+      own true a x t = refl
+      own false a x t = absurd t
 
 -- ---- one cell more
 module _ {P : Instance} {f : ℕ → ℕ} {counters : List ℕ} where
@@ -118,14 +127,15 @@ module _ {P : Instance} {f : ℕ → ℕ} {counters : List ℕ} where
           clean = below-more _ c (p .clean) (kind-idle P f c z);
           counted = record {
             size = p .counted .size;
-            work = λ i k l q. omega (arith, p .counted .work i k l q, done-next P f c (suc i) k, share-other P (suc i) k c (f c) (λ y. omega arith));
+            work = λ i k l q. p .counted .work i k l q
+                ∙ sym (count-other P f c (suc i) k (λ t. omega (arith, z, of-job P (suc i) k c (f c) t .0)));
           };
         }
 
     -- at a cell that does work
-    module _ (small : Small P) (l : c < cells P) {x : ℕ} {w : Work} (e : effectOf P f c ≡ Does x w) where
-      is : (f c ≢ 0) × (cellKind P f c ≡ 0) × (x ≡ counterAt (pred (f c)) (P .job (f c) (slotOf P c))) × (w .0 ≡ P .rate (f c) (coreOf P c))
-      is = does-is P f c x w e
+    module _ (small : Small P) (l : c < cells P) {x : ℕ} {w n : Work} (e : effectOf P f c ≡ Does x w n) where
+      is : (f c ≢ 0) × (cellKind P f c ≡ 0) × (x ≡ counterAt (pred (f c)) (P .job (f c) (slotOf P c))) × (w .0 ≡ P .rate (f c) (coreOf P c)) × (n .0 ≡ P .work (f c))
+      is = does-is P f c x w n e
 
       fine : Fine P f c
       fine = kind-fine P f (small .regular .some-core) c (is .1)
@@ -152,48 +162,51 @@ module _ {P : Instance} {f : ℕ → ℕ} {counters : List ℕ} where
       pub counter-in : x < 16384
       counter-in = omega (arith, is .2, few-i, few-k)
 
-      -- and holds what the cells passed do for the job
-      so-far : nth counters x ≡ done P c f (f c) k
-      so-far = ap (nth counters) (is .2) ∙ p .counted .work i k few-i few-k ∙ ap (λ v. done P c f v k) (sym (after (f c) (is .0)))
+      -- and holds the job's count
+      so-far : nth counters x ≡ jobCount P c f (f c) k
+      so-far = ap (nth counters) (is .2) ∙ p .counted .work i k few-i few-k ∙ ap (λ v. jobCount P c f v k) (sym (after (f c) (is .0)))
 
-      -- there is room for the work
-      pub work-fits : nth counters x + w .0 < 65536
+      -- its work is little
+      little : P .work (f c) ≤ 4096
+      little = small .little-work (f c) (is .0) (fine .known)
+
+      -- and there is room for one cell more
+      pub work-fits : n .0 + w .0 ≤ 65535
       work-fits = omega (
         arith,
-        so-far,
-        done-few small f c (f c) k (is .0) (fine .known),
         is .3,
+        is .4,
+        little,
         small .few-units (f c) (coreOf P c) (is .0) (fine .known) (mod-lt c (small .regular .some-core)),
-        small .few-cells,
       )
 
       -- after it
-      pub works : Passed P f (c + 1) (set counters x (nth counters x + w .0))
+      pub works : Passed P f (c + 1) (set counters x (counted (n .0) (nth counters x) (w .0)))
       works = record {
         clean = below-more _ c (p .clean) (is .1);
         counted = record { size = simp length-set (p .counted .size); work = counts };
       }
         where
-          counts : (a b : ℕ) → a < 16 → b < 1024 → nth (set counters x (nth counters x + w .0)) (counterAt a b) ≡ done P (c + 1) f (suc a) b
+          counts : (a b : ℕ) → a < 16 → b < 1024 → nth (set counters x (counted (n .0) (nth counters x) (w .0))) (counterAt a b) ≡ jobCount P (c + 1) f (suc a) b
           counts a b la lb = elim (ℕ-discrete (counterAt a b) x) [
-            | yes q ↦ ap (nth (set counters x (nth counters x + w .0))) q ∙ getD-set-same counters x _ 0 (omega (arith, counter-in, p .counted .size)) ∙ more q
-            | no y ↦ getD-set-other counters x (counterAt a b) _ 0 y ∙ omega (arith, p .counted .work a b la lb, done-next P f c (suc a) b, others y)
+            | yes q ↦ ap (nth (set counters x _)) q ∙ getD-set-same counters x _ 0 (omega (arith, counter-in, p .counted .size)) ∙ more q
+            | no y ↦ getD-set-other counters x (counterAt a b) _ 0 y ∙ p .counted .work a b la lb ∙ sym (count-other P f c (suc a) b (others y))
           ]
             where
               -- the job's own counter
-              more : counterAt a b ≡ x → nth counters x + w .0 ≡ done P (c + 1) f (suc a) b
+              more : counterAt a b ≡ x → counted (n .0) (nth counters x) (w .0) ≡ jobCount P (c + 1) f (suc a) b
               more q =
                   let t : suc a ≡ f c = omega (arith, q, is .2, few-i, after (f c) (is .0)) in
                   let j : b ≡ k = omega (arith, q, is .2, few-i) in
-                  omega (arith, so-far, is .3, done-next P f c (f c) k, share-own P (f c) c (fine .open-there (is .0)))
-                  ∙ (λ n. done P (c + 1) f (sym t n) (sym j n))
+                  (λ m. counted (is .4 m) (so-far m) (is .3 m))
+                  ∙ count-own P f c (f c) k (omega (arith, little)) (is-of-job P (f c) k c (f c) refl (job-slot P (f c) k (slotOf P c) (fine .open-there (is .0)) refl))
+                  ∙ (λ m. jobCount P (c + 1) f (sym t m) (sym j m))
 
-              -- the cell does nothing for the others
-              others : counterAt a b ≢ x → share P (suc a) b c (f c) ≡ 0
-              others y = share-none P (suc a) b c (f c) (λ v s. y (sym (is .2 ∙ (λ n. counterAt (pred (v n)) (slot-is v s n)))))
-                where
-                  slot-is : f c ≡ suc a → T (jobSlot P (suc a) b (slotOf P c)) → P .job (f c) (slotOf P c) ≡ b
-                  slot-is v s = ap (λ u. P .job u (slotOf P c)) v ∙ slot-job P (suc a) b (slotOf P c) s .1
+              -- the cell is of no other job
+              others : counterAt a b ≢ x → T (ofJob P (suc a) b c (f c)) → ⊥
+              others y h =
+                  let q = of-job P (suc a) b c (f c) h in
+                  y (sym (is .2 ∙ (λ m. counterAt (pred (q .0 m)) ((ap (λ u. P .job u (slotOf P c)) (q .0) ∙ slot-job P (suc a) b (slotOf P c) (q .1) .1) m))))
 
     -- at a faulty cell
     pub stops : c < cells P → {kind : ℕ} → effectOf P f c ≡ Faulty kind → {s j : ℕ} → slotOf P c ≡ s → coreOf P c ≡ j
@@ -233,16 +246,17 @@ module _ {list : TaskList} {m h : ℕ} {t : List ℕ} {slot core : ℕ} (at : At
   rests-at q = as-far (rests p (sym e ∙ q)) (omega arith)
 
   -- at one that does work: its counter
-  pub counter-at : {x : ℕ} {w : Work} → r ≡ Does x w → x < 16384
+  pub counter-at : {x : ℕ} {w n : Work} → r ≡ Does x w n → x < 16384
   counter-at q = counter-in p (ready-small (at .ready)) (cell-there at) (sym e ∙ q)
 
   -- with room for the work
-  pub fits-at : {x : ℕ} {w : Work} → r ≡ Does x w → nth counters x + w .0 < 65536
+  pub fits-at : {x : ℕ} {w n : Work} → r ≡ Does x w n → n .0 + w .0 ≤ 65535
   fits-at q = work-fits p (ready-small (at .ready)) (cell-there at) (sym e ∙ q)
 
   -- after it
-  pub works-at : {x : ℕ} {w : Work} → r ≡ Does x w → Passed (instanceFor list m h) (nth t) (slot * m + (core + 1)) (set counters x (nth counters x + w .0))
-  works-at q = as-far (works p (ready-small (at .ready)) (cell-there at) (sym e ∙ q)) (omega arith)
+  pub works-at : {x : ℕ} {w n : Work} → r ≡ Does x w n → {count : ℕ} → count ≡ counted (n .0) (nth counters x) (w .0)
+      → Passed (instanceFor list m h) (nth t) (slot * m + (core + 1)) (set counters x count)
+  works-at q s = rw s (as-far (works p (ready-small (at .ready)) (cell-there at) (sym e ∙ q)) (omega arith))
 
   -- at a faulty cell
   pub stops-at : {kind : ℕ} → r ≡ Faulty kind → CellsTold (instanceFor list m h) (nth t) (Cell slot (core + 1) kind) counters

@@ -25,13 +25,16 @@ use Rattle.tasks.specs.Instance.{Instance, instanceOf, ownInstance}
 use Rattle.tasks.proofs.SoundLaws.{sound-list}
 use Rattle.tasks.proofs.AnswerLaws.{tested-sound, tested-refused}
 use Rattle.table.specs.Table.{cells, done}
-use Rattle.table.specs.Fault.{cellKind, workKind, jobKind, noFault, inJob, firstJob, jobFault, fault, refused, checked, checkedIf, check}
-use Rattle.faults.specs.Tests.{counterAt, countedKind}
+use Rattle.table.specs.Fault.{cellKind, allNeeded, jobKind, noFault, inJob, firstJob, jobFault, fault, refused, checked, checkedIf, check}
+use Rattle.table.proofs.TableLaws.{done-more}
+use Rattle.table.proofs.WorkLaws.{not-needed}
+use Rattle.faults.specs.Tests.{counterAt, countOf, countKind, countedKind}
+use Rattle.faults.proofs.TestLaws.{count-kind}
 use Rattle.checker.proofs.Verdict.{the-type}
 use Rattle.checker.specs.declared.Verdict.{Verdict}
 use Rattle.checker.specs.declared.Verdict.the-variants.{Valid, Cell, Job, Refused}
-use Rattle.checker.specs.Checks.{checkedAs, instanceFor, Checkable, Counted, cellFault, CellsTold, jobFaultIn}
-use Rattle.checker.proofs.CellLaws.{Small, few-listed, few-slots, ready-small}
+use Rattle.checker.specs.Checks.{checkedAs, instanceFor, Checkable, jobCount, Counted, cellFault, CellsTold, jobFaultIn}
+use Rattle.checker.proofs.CellLaws.{Small, done-few, few-listed, few-slots, ready-small}
 
 -- ---- refusals
 module _ (m : ℕ) (ts : List Task) (t : List ℕ) where
@@ -93,13 +96,20 @@ job-same n jobs g h e = ⊎-elim
     under : i < n → seek (jobs (suc i)) (h (suc i)) < jobs (suc i)
     under l = ⊎-elim (λ q. q) (λ q. absurd (seek-some n (λ j. firstOf (jobs (suc j)) (h (suc j))) l (gate-ge _ _ _ q))) (lt-or-ge (seek (jobs (suc i)) (h (suc i))) (jobs (suc i)))
 
--- the counters tell the first faulty job
+-- a job's count tells its fault
+job-counted : {P : Instance} → Small P → (f : ℕ → ℕ) (i k : ℕ) → i ≢ 0 → i ≤ P .tasks → countKind (P .work i) (jobCount P (cells P) f i k) ≡ jobKind P f i k
+job-counted {P} small f i k x l = count-kind (P .work i) (done P (cells P) f i k) (omega (arith, small .little-work i x l)) (allNeeded P (cells P) f i k)
+    (λ e. omega (arith, done-few small f (cells P) i k x l, small .few-cells))
+    (λ n. let d = not-needed P f (cells P) i k n in omega (arith, d .4, done-more P (d .0) (cells P) f i k (omega (arith, d .1))))
+
+-- so the counters tell the first faulty job
 jobs-counted : {list : TaskList} {m h : ℕ} {t : List ℕ} → Checkable list m h t → {counters : List ℕ} → Counted (instanceFor list m h) (nth t) (cells (instanceFor list m h)) counters
     → jobFaultIn counters h (rows list) ≡ jobFault (instanceFor list m h) (nth t)
 unfolding instanceOf jobFaultIn countedKind
 jobs-counted {list} {m} {h} {t} ready {counters} n = job-same (length (rows list)) (instanceFor list m h .jobs)
     (λ i. countedKind counters (pred i) (task (rows list) i .work .0)) (jobKind (instanceFor list m h) (nth t))
-    (λ i k l q. ap (workKind (task (rows list) (suc i) .work .0)) (n .work i k (omega (arith, small .few-tasks)) (omega (arith, small .few-jobs (suc i)))))
+    (λ i k l q. ap (countKind (task (rows list) (suc i) .work .0)) (n .work i k (omega (arith, small .few-tasks)) (omega (arith, small .few-jobs (suc i))))
+    ∙ job-counted small (nth t) (suc i) k (λ z. omega arith) l)
   where
     small : Small (instanceFor list m h)
     small = ready-small ready
@@ -149,7 +159,7 @@ module _ (list : TaskList) (m : ℕ) (t : List ℕ) {s : Soundness} (e : testedA
 module _ {list : TaskList} {m h : ℕ} {t : List ℕ} (ready : Checkable list m h t) where
   -- before the first cell no work is done
   pub counted-none : Counted (instanceFor list m h) (nth t) 0 (replicate 16384 0)
-  unfolding done sum
+  unfolding done sum allNeeded countOf
   counted-none = record {
     size = length-replicate {A = ℕ} 16384 0;
     work = λ i k l q. getD-replicate {A = ℕ} 16384 (counterAt i k) 0 0 (omega arith);

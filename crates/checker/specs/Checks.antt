@@ -12,8 +12,8 @@ use Rattle.tasks.specs.Task.{task, rows}
 use Rattle.tasks.specs.Refusal.{IsSound, tableLength}
 use Rattle.tasks.specs.Instance.{Instance, instanceOf}
 use Rattle.table.specs.Table.{cells, slotOf, coreOf, done}
-use Rattle.table.specs.Fault.{cellKind, Fault, noFault, inCell, inJob, faultIf, firstJob, Checked, refused, checked}
-use Rattle.faults.specs.Tests.{counterAt, countedKind}
+use Rattle.table.specs.Fault.{cellKind, allNeeded, Fault, noFault, inCell, inJob, faultIf, firstJob, Checked, refused, checked}
+use Rattle.faults.specs.Tests.{counterAt, countOf, countedKind}
 use Rattle.checker.specs.declared.Verdict.{Verdict}
 use Rattle.checker.specs.declared.Verdict.the-variants.{Valid, Cell, Job, Refused}
 use Rattle.checker.specs.declared.Effect.{Effect}
@@ -43,20 +43,25 @@ pub record At (list : TaskList) (m h : ℕ) (t : List ℕ) (slot core : ℕ) : T
   pub core-in : core < m
 
 -- ---- cells
--- nothing for an idle cell, a fault of its kind, or the work s for the job of counter x
-abbrev pub effectIf : ℕ → ℕ → ℕ → ℕ → Effect
-effectIf zero kind x s = Nothing
-effectIf (suc v) zero x s = Does x (record { 0 = s })
-effectIf (suc v) (suc kind) x s = Faulty (suc kind)
+-- nothing for an idle cell, a fault of its kind, or the work s for the job of counter x, whose work is C
+abbrev pub effectIf : ℕ → ℕ → ℕ → ℕ → ℕ → Effect
+effectIf zero kind x s C = Nothing
+effectIf (suc v) zero x s C = Does x (record { 0 = s }) (record { 0 = C })
+effectIf (suc v) (suc kind) x s C = Faulty (suc kind)
 
 -- what cell c does
 unfoldable pub effectOf : Instance → (ℕ → ℕ) → ℕ → Effect
-effectOf P f c = effectIf (f c) (cellKind P f c) (counterAt (pred (f c)) (P .job (f c) (slotOf P c))) (P .rate (f c) (coreOf P c))
+effectOf P f c =
+    effectIf (f c) (cellKind P f c) (counterAt (pred (f c)) (P .job (f c) (slotOf P c))) (P .rate (f c) (coreOf P c)) (P .work (f c))
 
--- the counters hold what the first c cells do for each job
+-- the count of job k of task i after the first c cells
+abbrev pub jobCount : Instance → ℕ → (ℕ → ℕ) → ℕ → ℕ → ℕ
+jobCount P c f i k = countOf (allNeeded P c f i k) (done P c f i k)
+
+-- the counters hold each job's count after the first c cells
 pub record Counted (P : Instance) (f : ℕ → ℕ) (c : ℕ) (counters : List ℕ) : Type 0 where
   pub size : length counters ≡ 16384
-  pub work : (i k : ℕ) → i < 16 → k < 1024 → nth counters (counterAt i k) ≡ done P c f (suc i) k
+  pub work : (i k : ℕ) → i < 16 → k < 1024 → nth counters (counterAt i k) ≡ jobCount P c f (suc i) k
 
 -- the first faulty cell
 unfoldable pub cellFault : Instance → (ℕ → ℕ) → Fault

@@ -4,7 +4,7 @@ use Prim.Native.Nat.{ℕ, suc, _≤_, _<_}
 use mathlib.Core.Path.{_≡_}
 use mathlib.Core.Logic.{_≢_}
 use lib.Dec.{T}
-use Rattle.tasks.specs.Instance.{Instance}
+use Rattle.tasks.specs.Instance.{Instance, jobSlot}
 use Rattle.table.specs.Table.{cells, slotOf, coreOf, done}
 
 -- 6.3: cell c has no fault: it is 0 or a task number; its task is open there, has a positive rate, and does not stand in this slot already
@@ -26,16 +26,19 @@ pub data Wrong (P : Instance) (f : ℕ → ℕ) (c : ℕ) : ℕ → Type 0 where
   twice : f c ≢ 0 → f c ≤ P .tasks → T (P .opens (f c) (slotOf P c)) → 0 < P .rate (f c) (coreOf P c)
       → (d : ℕ) → d < c → slotOf P d ≡ slotOf P c → f d ≡ f c → Wrong P f c 4
 
--- 6.4: job k of task i has no fault: the rates of its cells add up to exactly C
-abbrev pub Exact : Instance → (ℕ → ℕ) → ℕ → ℕ → Type 0
-Exact P f i k = done P (cells P) f i k ≡ P .work i
+-- 6.4: job k of task i has no fault: it is met
+pub record Met (P : Instance) (f : ℕ → ℕ) (i k : ℕ) : Type 0 where
+  -- its cells do at least C units
+  pub full : P .work i ≤ done P (cells P) f i k
+  -- and none of them stands where its earlier cells have already done C
+  pub needed : (c : ℕ) → c < cells P → f c ≡ i → T (jobSlot P i k (slotOf P c)) → done P c f i k < P .work i
 
 -- 6.4: it has the fault of this kind
 pub data WrongWork (P : Instance) (f : ℕ → ℕ) (i k : ℕ) : ℕ → Type 0 where
   -- 5 too little work
   too-little : done P (cells P) f i k < P .work i → WrongWork P f i k 5
-  -- 6 too much
-  too-much : P .work i < done P (cells P) f i k → WrongWork P f i k 6
+  -- 6 a cell after the job was complete, cell c
+  after-complete : (c : ℕ) → c < cells P → f c ≡ i → T (jobSlot P i k (slotOf P c)) → P .work i ≤ done P c f i k → WrongWork P f i k 6
 
 -- 6.2: the cell of slot s and core j, from 1, is the first faulty one, by this kind
 pub record FirstCell (P : Instance) (f : ℕ → ℕ) (s j kind : ℕ) : Type 0 where
@@ -53,5 +56,5 @@ pub record FirstJob (P : Instance) (f : ℕ → ℕ) (i k kind : ℕ) : Type 0 w
   pub task-in : i ≤ P .tasks
   pub job-in : k < P .jobs i
   pub is-wrong : WrongWork P f i k kind
-  pub tasks-before : (j l : ℕ) → j ≢ 0 → j < i → l < P .jobs j → Exact P f j l
-  pub jobs-before : (l : ℕ) → l < k → Exact P f i l
+  pub tasks-before : (j l : ℕ) → j ≢ 0 → j < i → l < P .jobs j → Met P f j l
+  pub jobs-before : (l : ℕ) → l < k → Met P f i l

@@ -22,10 +22,10 @@ pub enum Verdict {
 
 const IDLE: u8 = 0;
 
-// What a cell does: nothing, so much work for the job at a counter, or a fault of a kind.
+// What a cell does: nothing; so much work for the job at a counter, whose work follows; or a fault of a kind.
 enum Effect {
     Nothing,
-    Does(usize, Work),
+    Does(usize, Work, Work),
     Faulty(u8),
 }
 
@@ -52,16 +52,18 @@ fn cell_effect(list: TaskList, len: Slots, m: u8, table: &[u8], slot: u16, core:
         return Effect::Faulty(fault);
     }
     let job = windows::job_at(len, task, Slots(slot));
+    let work = task.work;
     Effect::Does(
         faults::counter_of(place, job),
         tasks::work_in(rate, Slots(1)),
+        work,
     )
 }
 
-// The first faulty cell, in table order; `done` counts the work of the cells before it.
-fn scan_cells(list: TaskList, len: Slots, m: u8, table: &[u8], done: &mut [u16; 16384]) -> Verdict
-    requires { ⌜ Checkable list m (len .0) (now table) × Counted (instanceFor list m (len .0)) (nth (now table)) 0 (now done) ⌝ }
-    ensures { λ r. ⌜ CellsTold (instanceFor list m (len .0)) (nth (now (table .entry))) r (now (done .exit)) ⌝ }
+// The first faulty cell, in table order; `counts` has the counts of the jobs after the cells before it.
+fn scan_cells(list: TaskList, len: Slots, m: u8, table: &[u8], counts: &mut [u16; 16384]) -> Verdict
+    requires { ⌜ Checkable list m (len .0) (now table) × Counted (instanceFor list m (len .0)) (nth (now table)) 0 (now counts) ⌝ }
+    ensures { λ r. ⌜ CellsTold (instanceFor list m (len .0)) (nth (now (table .entry))) r (now (counts .exit)) ⌝ }
 {
     let slots = len.0;
     let mut slot: u16 = 0;
@@ -73,8 +75,8 @@ fn scan_cells(list: TaskList, len: Slots, m: u8, table: &[u8], done: &mut [u16; 
             let effect = cell_effect(list, len, m, table, slot, core);
             match effect {
                 Effect::Nothing => {}
-                Effect::Does(counter, work) => {
-                    done[counter] += work.0;
+                Effect::Does(counter, does, work) => {
+                    counts[counter] = faults::count_cell(counts[counter], work, does);
                 }
                 Effect::Faulty(kind) => {
                     break 'scan Verdict::Cell(slot, core + 1, kind);
@@ -86,18 +88,22 @@ fn scan_cells(list: TaskList, len: Slots, m: u8, table: &[u8], done: &mut [u16; 
 }
 
 // The first faulty job, by task and job number.
-fn scan_jobs(list: TaskList, len: Slots, done: &[u16; 16384]) -> Verdict
+fn scan_jobs(list: TaskList, len: Slots, counts: &[u16; 16384]) -> Verdict
     requires { ⌜ (list .n ≤ 16) × (len .0 ≤ 1024) × Periods (rows list) ⌝ }
-    ensures { λ r. ⌜ checkedAs r ≡ checked (jobFaultIn (now (done .entry)) (len .0) (rows list)) ⌝ }
+    ensures { λ r. ⌜ checkedAs r ≡ checked (jobFaultIn (now (counts .entry)) (len .0) (rows list)) ⌝ }
 {
     let n = list.n;
     for place in 0..n {
         let task = tasks::task_at(list, place as usize);
         let jobs = len.0 / task.period.0;
         let work = task.work;
-        let job = faults::faulty_job(done, place, work, jobs);
+        let job = faults::faulty_job(counts, place, work, jobs);
         if job < jobs {
-            return Verdict::Job(place + 1, job, faults::counted_kind(done, place, work, job));
+            return Verdict::Job(
+                place + 1,
+                job,
+                faults::counted_kind(counts, place, work, job),
+            );
         }
     }
     Verdict::Valid
@@ -114,10 +120,10 @@ pub fn check_table(list: TaskList, m: u8, table: &[u8]) -> Verdict
             if table.len() < (len.0 as usize) * (m as usize) {
                 return Verdict::Refused(tasks::BAD_BUFFER);
             }
-            let mut done: [u16; 16384] = [0; 16384];
-            let cells = scan_cells(list, len, m, table, &mut done);
+            let mut counts: [u16; 16384] = [0; 16384];
+            let cells = scan_cells(list, len, m, table, &mut counts);
             match cells {
-                Verdict::Valid => scan_jobs(list, len, &done),
+                Verdict::Valid => scan_jobs(list, len, &counts),
                 _ => cells,
             }
         }

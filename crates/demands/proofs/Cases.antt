@@ -12,7 +12,7 @@ use Rattle.tasks.specs.Refusal.{within, unless, orNext, ratesFit, taskRefusal, 
 use Rattle.tasks.specs.Window.{place, highest}
 use Rattle.tasks.specs.Instance.{instanceOf}
 use Rattle.table.specs.Table.{share, done, free}
-use Rattle.table.specs.Fault.{kindOf, cellKind, workKind, firstJob, fault, Checked, checked, inCell, inJob, check}
+use Rattle.table.specs.Fault.{kindOf, cellKind, allNeeded, workKind, firstJob, fault, Checked, checked, noFault, inCell, inJob, check}
 use Rattle.rules.specs.Walk.{walk}
 use Rattle.rules.specs.Rules.{tests, permitted, settled, allSettled, evenRates, twin, idleTried, ruleA, ruleB, quickly}
 use Rattle.rules.specs.Search.{Searched, searchTold, searchRefusal, search}
@@ -79,7 +79,7 @@ first = 4294967294
 -- what the definitions answer
 answer : Question → Reply
 unfolding reply blank steps first gate sum tabFrom over seek euclid gcdOf lcmOf lcmsOf within unless orNext ratesFit taskRefusal listRefusal tableLength refusal place highest instanceOf
-    share done free kindOf cellKind workKind firstJob fault check walk tests permitted settled allSettled evenRates twin idleTried ruleA ruleB quickly
+    share done free kindOf cellKind allNeeded workKind firstJob fault check walk tests permitted settled allSettled evenRates twin idleTried ruleA ruleB quickly
     searchTold searchRefusal search stepRefusal nextOf cellsOf afterStep stepped padded recordOf started afterStart
 answer (searching m ts e b room) = reply (search m ts e b (replicate room 77))
 answer (sounding m ts) = sounded (refusal m ts) (tableLength ts)
@@ -112,6 +112,14 @@ three = task 0 1 3 3 two ∷ task 0 2 3 3 two ∷ task 0 3 3 3 two ∷ []
 idle : List Task
 idle = task 0 1 1 1 (0 ∷ 0 ∷ 0 ∷ 0 ∷ []) ∷ []
 
+-- a job that one cell completes
+quickly-done : List Task
+quickly-done = task 0 2 2 2 (2 ∷ 0 ∷ 0 ∷ 0 ∷ []) ∷ []
+
+-- a job that runs round the table's end, on a slow and a fast core
+round : ℕ → ℕ → List Task
+round c fast = task 1 c 2 2 (1 ∷ fast ∷ 0 ∷ 0 ∷ []) ∷ []
+
 -- tasks of work 1 with given periods, open throughout
 periods : List ℕ → List Task
 periods = map (λ t. task 0 1 t t one)
@@ -131,6 +139,9 @@ questions =
     ∷ checking 1 P2 (1 ∷ 1 ∷ 1 ∷ []) ∷ checking 1 P2 (1 ∷ 0 ∷ 0 ∷ [])
     ∷ searching 2 three 1 1000 6
     ∷ searching 1 idle 0 1000 1 ∷ searching 1 idle 1 1000 1
+    ∷ checking 1 quickly-done (1 ∷ 1 ∷ []) ∷ checking 1 P6 (1 ∷ 1 ∷ [])
+    ∷ checking 2 (round 2 2) (1 ∷ 0 ∷ 0 ∷ 1 ∷ []) ∷ playing 2 (round 2 2) (1 ∷ 0 ∷ 0 ∷ 1 ∷ []) 2
+    ∷ searching 2 (round 3 3) 1 1000 4
     ∷ []
 
 -- what the rules say, and P5's tries
@@ -142,7 +153,7 @@ replies =
     ∷ searched 13 3 (0 ∷ 77 ∷ []) ∷ searched 13 2 (0 ∷ 77 ∷ [])
     ∷ searched 13 17 (0 ∷ 0 ∷ []) ∷ searched 13 6 (0 ∷ 0 ∷ [])
     ∷ searched 0 16 (0 ∷ 1 ∷ 2 ∷ 1 ∷ []) ∷ searched 0 13 (0 ∷ 1 ∷ 2 ∷ 1 ∷ [])
-    ∷ searched 13 5 (0 ∷ 0 ∷ []) ∷ searched 13 2 (0 ∷ 0 ∷ [])
+    ∷ searched 0 2 (1 ∷ 1 ∷ []) ∷ searched 0 2 (1 ∷ 1 ∷ [])
     ∷ searched 14 2 (0 ∷ []) ∷ searched 13 3 (0 ∷ [])
     ∷ searched 4 0 (replicate 5 77) ∷ searched 4 0 (replicate 5 77)
     ∷ sounded 0 992 ∷ sounded 8 1056
@@ -150,11 +161,14 @@ replies =
     ∷ told-of (checked (inCell 1 1 2)) ∷ told-of (checked (inJob 1 0 5))
     ∷ searched 0 12 (1 ∷ 3 ∷ 2 ∷ 3 ∷ 2 ∷ 3 ∷ [])
     ∷ searched 13 1 (0 ∷ []) ∷ searched 13 1 (0 ∷ [])
+    ∷ told-of (checked (inJob 1 0 6)) ∷ told-of (checked noFault)
+    ∷ told-of (checked noFault) ∷ played ((0 ∷ 0 ∷ 0 ∷ 0 ∷ []) ∷ (0 ∷ 1 ∷ 0 ∷ 0 ∷ []) ∷ (1 ∷ 0 ∷ 0 ∷ 0 ∷ []) ∷ [])
+    ∷ searched 0 6 (1 ∷ 0 ∷ 0 ∷ 1 ∷ [])
     ∷ []
 
--- P1 to P12, the worked example, and a task that no core can run
+-- P1 to P12, the worked example, a task that no core can run, a cell after its job was complete, and a job round the table's end, which may in time be shown after it has had its work
 cases : map answer questions ≡ replies
-unfolding answer questions replies P1 P2 P3 P4 P5 P6 three idle periods task one two
+unfolding answer questions replies P1 P2 P3 P4 P5 P6 three idle quickly-done round periods task one two
 cases = refl
 
 -- ---- from text to text

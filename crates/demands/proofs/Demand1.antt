@@ -20,7 +20,7 @@ use Rattle.tasks.specs.declared.Task.{Task}
 use Rattle.tasks.specs.Task.{rate, task}
 use Rattle.tasks.specs.Refusal.{within, unless, orNext, mostRate, ratesFit, taskRefusal, listRefusal, tableLength, refusal, IsSound}
 use Rattle.tasks.specs.Instance.{instanceOf, ownInstance}
-use Rattle.tasks.proofs.SoundLaws.{within-is, is-within, rates-at, sound-list}
+use Rattle.tasks.proofs.SoundLaws.{within-is, is-within, rates-at, sound-list, own-regular}
 use Rattle.tasks.proofs.AnswerLaws.{unless-yes, unless-no, rates-under, or-first, or-next}
 use Rattle.table.specs.Table.{cells, Valid}
 use Rattle.table.specs.Fault.{Fault, noFault, inCell, inJob, fault}
@@ -274,7 +274,7 @@ module _ (m : ℕ) (ts : List Task) (t : List ℕ) where
     | no x ↦ rw (check-refused m ts t x) (of-list x (list-of m ts))
     | yes e ↦ ⊎-elim
         (λ l. rw (check-short m ts t e l) (short (sound-none m ts e) l))
-        (λ l. rw (check-long m ts t e l) (of-fault (sound-none m ts e) l (fault (ownInstance m ts) (nth t)) (names (ownInstance m ts) (nth t) (sound-list m ts e .some-core) .none-exact)))
+        (λ l. rw (check-long m ts t e l) (of-fault (sound-none m ts e) l (fault (ownInstance m ts) (nth t)) (names (ownInstance m ts) (nth t) (own-regular m ts e) .none-exact)))
         (lt-or-ge (length t) (cells (ownInstance m ts)))
   ]
 
@@ -283,14 +283,14 @@ module _ (m : ℕ) (ts : List Task) (t : List ℕ) where
   unfolding instanceOf
   start-is (of-list x h) = let e = list-is m ts h in ap checkRefusal (check-refused m ts t (λ z. x (sym e ∙ z))) ∙ e
   start-is (short s l) = ap checkRefusal (check-short m ts t (list-is m ts s) l)
-  start-is (invalid s l x) = ap checkRefusal (check-long m ts t (list-is m ts s) l) ∙ wrong (fault (ownInstance m ts) (nth t)) (names (ownInstance m ts) (nth t) (sound-list m ts (list-is m ts s) .some-core) .none-exact)
+  start-is (invalid s l x) = ap checkRefusal (check-long m ts t (list-is m ts s) l) ∙ wrong (fault (ownInstance m ts) (nth t)) (names (ownInstance m ts) (nth t) (own-regular m ts (list-is m ts s)) .none-exact)
     where
       wrong : (y : Fault) → (y ≡ noFault) ↔ Valid (ownInstance m ts) (nth t) → faultRefusal y ≡ 11
       wrong noFault h = absurd (x (h .0 refl))
       wrong (inCell a b c) h = refl
       wrong (inJob a b c) h = refl
   start-is (none s l v) = ap checkRefusal (check-long m ts t (list-is m ts s) l)
-      ∙ ap faultRefusal (names (ownInstance m ts) (nth t) (sound-list m ts (list-is m ts s) .some-core) .none-exact .1 v)
+      ∙ ap faultRefusal (names (ownInstance m ts) (nth t) (own-regular m ts (list-is m ts s)) .none-exact .1 v)
 
 -- a refused start
 start-left : (p made : Player) (k : ℕ) → k ≢ 0 → NothingShown (firstShown made k) p (recordOr k made p)

@@ -87,7 +87,7 @@ quick-unless-told text out r out′ call l m ts e b reads none sound = text-plan
 module _ (ts : List Task) (m : ℕ) (t : List ℕ) (p : Player) (tick : ℕ → ℕ) (n : ℕ) (shown : ℕ → Shown) (left : ℕ → Player)
     (valid : Check ts m t IsValid) (run : Run ts m t p tick n shown left) where
   -- a table that `check` finds valid, played by a call of `start` with the lent tasks and n calls of `step` with every elapsed number 1:
-  -- each job from its first release gets exactly its work inside its own window
+  -- each job from its first release gets at least its work inside its own window
   pub plays : ((s : ℕ) → s < n → elapsedAt tick s ≡ 1) → Plays m ts t n shown
   plays = played.plays ts m t p tick n shown left valid run
 

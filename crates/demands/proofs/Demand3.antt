@@ -11,7 +11,7 @@ use Rattle.table.specs.Table.{cells, Table}
 use Rattle.rules.specs.Rules.{rank}
 use Rattle.rules.specs.Right.{Right, Quicker}
 use Rattle.rules.specs.Search.{walked, search}
-use Rattle.rules.proofs.Told.{own-regular}
+use Rattle.tasks.proofs.SoundLaws.{own-regular}
 use Rattle.rules.proofs.Demand2.{walks}
 use Rattle.rules.proofs.Demand3.{Agree, without-limit, agree}
 use Rattle.search.specs.declared.Answer.{Answer}

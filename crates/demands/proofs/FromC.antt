@@ -24,7 +24,7 @@ use Rattle.search.specs.declared.Answer.{Answer}
 use Rattle.checker.specs.declared.Verdict.{Verdict}
 use Rattle.checker.specs.declared.Verdict.the-variants.{Valid}
 use Rattle.checker.specs.Checks.{checkedAs}
-use Rattle.checker.specs.Faulty.{Wrong, unknown, closed, unrated, twice, WrongWork, too-little, too-much}
+use Rattle.checker.specs.Faulty.{Wrong, unknown, closed, unrated, twice, WrongWork, too-little, after-complete}
 use Rattle.checker.proofs.TellLaws.{check-refused}
 use Rattle.checker.proofs.Calls.{verdictFrom, checked-back}
 use Rattle.checker.proofs.Demand2.{tells}
@@ -117,7 +117,7 @@ kind-most (twice x l o z d h s e) = omega arith
 
 work-most : {P : Instance} {f : ℕ → ℕ} {i k kind : ℕ} → WrongWork P f i k kind → kind ≤ 6
 work-most (too-little x) = omega arith
-work-most (too-much x) = omega arith
+work-most (after-complete c l e s h) = omega arith
 
 module _ (ts : List Task) (m : ℕ) (t : List ℕ) where
   -- a table that is looked at is a sound list's
@@ -218,7 +218,7 @@ module _ (ts : List Task) (m : ℕ) (t : List ℕ) (p : Player) (tick : ℕ → 
     unfolding shown
     valid = accepts ts m t p (left 0) (tick 0) (shown 0) (refl, board .starts .1) .0 (sym (reads 0 (omega arith) .verdict) ∙ accepted)
 
-    -- with every elapsed number 1 it is shown what the table demands: each job from its first release gets exactly its work inside its own window
+    -- with every elapsed number 1 it is shown what the table demands: each job from its first release gets at least its work inside its own window
     pub board-plays : ((s : ℕ) → s < n → elapsedAt tick s ≡ 1)
         → (shown : ℕ → Shown) × Plays m ts t n shown × ((s : ℕ) → s ≤ n → Reads (answer s) (cells s) (shown s))
     board-plays each = (shown, plays ts m t p tick n shown left valid run each, reads)

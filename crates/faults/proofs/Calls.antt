@@ -9,10 +9,11 @@ use Rattle.laws.specs.Lists.{seek}
 use Rattle.laws.proofs.Only.{Says, only}
 use Rattle.tasks.specs.declared.Work.{Work}
 use Rattle.table.specs.Fault.{knownKind}
-use Rattle.faults.specs.Tests.{freeIn, counterAt, countedKind}
+use Rattle.faults.specs.Tests.{freeIn, counterAt, counted, countedKind}
 use Rattle.faults.proofs.free as free-task
 use Rattle.faults.proofs.counter_of as counter-of
 use Rattle.faults.proofs.kind as cell-kind
+use Rattle.faults.proofs.count_cell as count-cell
 use Rattle.faults.proofs.counted_kind as counted-kind
 use Rattle.faults.proofs.faulty_job as faulty-job
 
@@ -48,24 +49,35 @@ kind-says κs opens rated free opens′ rated′ free′ r M 𝓤 H A mem run = 
 pub kind-only : (opens rated free : Bool) (r r′ : ℕ) → Kind opens rated free r → Kind opens rated free r′ → r ≡ r′
 kind-only opens rated free r r′ = only
 
+-- ---- count_cell
+abbrev pub CountCell : ℕ → Work → Work → ℕ → Type 0
+CountCell count work does r = r ≡ counted (work .0) count (does .0)
+
+count-cell-says : (κs count work does count′ work′ does′ r : _)
+    → Says (λ M 𝓤 H A mem run. count-cell.ensures-1 𝓤 H κs A mem run count work does count′ work′ does′ r) (CountCell count work does r)
+count-cell-says κs count work does count′ work′ does′ r M 𝓤 H A mem run = refl
+
+pub count-cell-only : (count : ℕ) (work does : Work) (r r′ : ℕ) → CountCell count work does r → CountCell count work does r′ → r ≡ r′
+count-cell-only count work does r r′ = only
+
 -- ---- counted_kind
 abbrev pub CountedKind : List ℕ → ℕ → Work → ℕ → ℕ → Type 0
-CountedKind done place work job r = r ≡ countedKind done place (work .0) job
+CountedKind counts place work job r = r ≡ countedKind counts place (work .0) job
 
-counted-kind-says : (κs done place work job done′ place′ work′ job′ r : _)
-    → Says (λ M 𝓤 H A mem run. counted-kind.ensures-1 𝓤 H κs A mem run done place work job done′ place′ work′ job′ r) (CountedKind (now (done′ .entry)) place work job r)
-counted-kind-says κs done place work job done′ place′ work′ job′ r M 𝓤 H A mem run = refl
+counted-kind-says : (κs counts place work job counts′ place′ work′ job′ r : _)
+    → Says (λ M 𝓤 H A mem run. counted-kind.ensures-1 𝓤 H κs A mem run counts place work job counts′ place′ work′ job′ r) (CountedKind (now (counts′ .entry)) place work job r)
+counted-kind-says κs counts place work job counts′ place′ work′ job′ r M 𝓤 H A mem run = refl
 
-pub counted-kind-only : (done : List ℕ) (place : ℕ) (work : Work) (job r r′ : ℕ) → CountedKind done place work job r → CountedKind done place work job r′ → r ≡ r′
-counted-kind-only done place work job r r′ = only
+pub counted-kind-only : (counts : List ℕ) (place : ℕ) (work : Work) (job r r′ : ℕ) → CountedKind counts place work job r → CountedKind counts place work job r′ → r ≡ r′
+counted-kind-only counts place work job r r′ = only
 
 -- ---- faulty_job
 abbrev pub FaultyJob : List ℕ → ℕ → Work → ℕ → ℕ → Type 0
-FaultyJob done place work jobs r = r ≡ seek jobs (countedKind done place (work .0))
+FaultyJob counts place work jobs r = r ≡ seek jobs (countedKind counts place (work .0))
 
-faulty-job-says : (κs done place work jobs done′ place′ work′ jobs′ r : _)
-    → Says (λ M 𝓤 H A mem run. faulty-job.ensures-1 𝓤 H κs A mem run done place work jobs done′ place′ work′ jobs′ r) (FaultyJob (now (done′ .entry)) place work jobs r)
-faulty-job-says κs done place work jobs done′ place′ work′ jobs′ r M 𝓤 H A mem run = refl
+faulty-job-says : (κs counts place work jobs counts′ place′ work′ jobs′ r : _)
+    → Says (λ M 𝓤 H A mem run. faulty-job.ensures-1 𝓤 H κs A mem run counts place work jobs counts′ place′ work′ jobs′ r) (FaultyJob (now (counts′ .entry)) place work jobs r)
+faulty-job-says κs counts place work jobs counts′ place′ work′ jobs′ r M 𝓤 H A mem run = refl
 
-pub faulty-job-only : (done : List ℕ) (place : ℕ) (work : Work) (jobs r r′ : ℕ) → FaultyJob done place work jobs r → FaultyJob done place work jobs r′ → r ≡ r′
-faulty-job-only done place work jobs r r′ = only
+pub faulty-job-only : (counts : List ℕ) (place : ℕ) (work : Work) (jobs r r′ : ℕ) → FaultyJob counts place work jobs r → FaultyJob counts place work jobs r′ → r ≡ r′
+faulty-job-only counts place work jobs r r′ = only

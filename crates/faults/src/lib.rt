@@ -1,10 +1,10 @@
-// The tests of one cell and of one job: kinds of fault, and the counters of the jobs' work.
+// The tests of one cell and of one job: kinds of fault, and the counts of the jobs' work.
 ghost use mathlib.Core.Path.{_≡_};
 ghost use Prim.Native.Nat.{_+_, _≤_, _<_};
 ghost use lib.ListN.{length};
 ghost use Rattle.laws.specs.Lists.{seek};
-ghost use Rattle.table.specs.Fault.{knownKind, workKind};
-ghost use Rattle.faults.specs.Tests.{freeIn, counterAt, countedKind};
+ghost use Rattle.table.specs.Fault.{knownKind};
+ghost use Rattle.faults.specs.Tests.{freeIn, counterAt, counted, countKind, countedKind};
 use tasks::MAX_TASKS;
 use tasks::Work;
 
@@ -19,7 +19,10 @@ pub const ALREADY_IN_SLOT: u8 = 4;
 
 pub const TOO_LITTLE_WORK: u8 = 5;
 
-pub const TOO_MUCH_WORK: u8 = 6;
+pub const AFTER_COMPLETE: u8 = 6;
+
+// The count of a job of which a cell was not needed.
+const UNNEEDED: u16 = 65535;
 
 // Whether a task stands on none of the earlier cores of the slot that begins at cell `first`.
 pub fn free(table: &[u8], first: usize, core: u8, task: u8) -> bool
@@ -57,35 +60,47 @@ pub fn kind(opens: bool, rated: bool, free: bool) -> u8
     0
 }
 
-// The kind of fault of a job with so much work done; 0 if it is exactly its work.
-fn job_kind(work: Work, done: Work) -> u8
-    ensures { λ r. ⌜ r ≡ workKind (work .0) (done .0) ⌝ }
+// The count of a job with one more cell, which is needed unless the job is complete.
+pub fn count_cell(count: u16, work: Work, does: Work) -> u16
+    requires { ⌜ work .0 + does .0 ≤ 65535 ⌝ }
+    ensures { λ r. ⌜ r ≡ counted (work .0) count (does .0) ⌝ }
 {
-    if done.0 < work.0 {
+    if work.0 <= count {
+        UNNEEDED
+    } else {
+        count + does.0
+    }
+}
+
+// The kind of fault of a job by its count; 0 if it is met.
+fn count_kind(work: Work, count: u16) -> u8
+    ensures { λ r. ⌜ r ≡ countKind (work .0) count ⌝ }
+{
+    if count < work.0 {
         return TOO_LITTLE_WORK;
     }
-    if work.0 < done.0 {
-        return TOO_MUCH_WORK;
+    if count == UNNEEDED {
+        return AFTER_COMPLETE;
     }
     0
 }
 
 // The kind of fault of a job of the task at a place of the list.
-pub fn counted_kind(done: &[u16; 16384], place: u8, work: Work, job: u16) -> u8
+pub fn counted_kind(counts: &[u16; 16384], place: u8, work: Work, job: u16) -> u8
     requires { ⌜ (place < 16) × (job < 1024) ⌝ }
-    ensures { λ r. ⌜ r ≡ countedKind (now (done .entry)) place (work .0) job ⌝ }
+    ensures { λ r. ⌜ r ≡ countedKind (now (counts .entry)) place (work .0) job ⌝ }
 {
-    job_kind(work, Work(done[counter_of(place, job)]))
+    count_kind(work, counts[counter_of(place, job)])
 }
 
 // The first faulty job of the task at a place of the list; the number of its jobs if none is.
-pub fn faulty_job(done: &[u16; 16384], place: u8, work: Work, jobs: u16) -> u16
+pub fn faulty_job(counts: &[u16; 16384], place: u8, work: Work, jobs: u16) -> u16
     requires { ⌜ (place < 16) × (jobs ≤ 1024) ⌝ }
-    ensures { λ r. ⌜ r ≡ seek jobs (countedKind (now (done .entry)) place (work .0)) ⌝ }
+    ensures { λ r. ⌜ r ≡ seek jobs (countedKind (now (counts .entry)) place (work .0)) ⌝ }
 {
     let mut job: u16 = 0;
     while job < jobs {
-        if counted_kind(done, place, work, job) != 0 {
+        if counted_kind(counts, place, work, job) != 0 {
             return job;
         }
         job += 1;

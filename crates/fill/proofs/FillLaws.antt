@@ -25,7 +25,7 @@ use Rattle.windows.specs.Answer.{inSlotAs, inSlot}
 use Rattle.tasks.proofs.WindowLaws.{pos-T, job-lt}
 use Rattle.windows.proofs.AnswerLaws.{told-open, told-closed}
 use Rattle.grid.specs.GridFor.{isQuick}
-use Rattle.fill.specs.Grid.{Fit, entryFor, entryAt, evenPair, rowEven, coresTwin, quickMark, fitMark, evenMarks, twinMarks, taskCount, coreCount, fitMarks, marks, ruleTest, sizeAt, markAt, endMark, unmarkedOf, gridOf}
+use Rattle.fill.specs.Grid.{Fit, entryFor, entryAt, evenPair, rowEven, coresTwin, quickMark, ratedMark, evenMarks, twinMarks, taskCount, coreCount, ratedMarks, marks, ruleTest, sizeAt, markAt, endMark, unmarkedOf, gridOf}
 
 -- ---- places stored one after the other
 module _ (s : List ℕ) (g : ℕ → ℕ) where
@@ -174,18 +174,18 @@ module _ (n : ℕ) (rates : List ℕ) (m e L x : ℕ) where
   at-rule k l = rw (le-ltb x evenMarks k, lt-ltb x taskCount l)
 
   -- a number
-  pub at-size : taskCount ≤ x → x < fitMarks → markAt n rates m e L x ≡ sizeAt n m L x
+  pub at-size : taskCount ≤ x → x < ratedMarks → markAt n rates m e L x ≡ sizeAt n m L x
   unfolding markAt
-  at-size k l = rw (le-ltb x evenMarks (omega arith), le-ltb x taskCount k, lt-ltb x fitMarks l)
+  at-size k l = rw (le-ltb x evenMarks (omega arith), le-ltb x taskCount k, lt-ltb x ratedMarks l)
 
-  -- the cores on which a rate fits
-  pub at-fit : fitMarks ≤ x → markAt n rates m e L x ≡ fitMark rates (x - fitMarks)
+  -- the cores on which a rate is positive
+  pub at-rated : ratedMarks ≤ x → markAt n rates m e L x ≡ ratedMark rates (x - ratedMarks)
   unfolding markAt
-  at-fit k = rw (le-ltb x evenMarks (omega arith), le-ltb x taskCount (omega arith), le-ltb x fitMarks k)
+  at-rated k = rw (le-ltb x evenMarks (omega arith), le-ltb x taskCount (omega arith), le-ltb x ratedMarks k)
 
 -- ---- the grid
 pub grid-filled : (list : TaskList) (m e L : ℕ) (s entries marked ends : List ℕ) → entries ≡ filled s 0 (L * 16) (entryAt list L)
-    → marked ≡ filled entries 16384 marks (markAt (list .n) (list .rates) m e L) → ends ≡ filled marked 16739 L (endMark marked (list .n)) → ends ≡ gridOf list m e L s
+    → marked ≡ filled entries 16384 marks (markAt (list .n) (list .rates) m e L) → ends ≡ filled marked 16499 L (endMark marked (list .n)) → ends ≡ gridOf list m e L s
 unfolding gridOf unmarkedOf
 grid-filled list m e L s entries marked ends eg em ee = rw (ee, em, eg)
 
@@ -202,6 +202,6 @@ module _ (grid : List ℕ) (n t : ℕ) where
   none-ends none = sym (seek-none n _ none)
 
 -- the marks filled in before change none
-pub ends-same : (grid now : List ℕ) (n k t r : ℕ) → n ≤ 16 → t < 1024 → now ≡ filled grid 16739 k (endMark grid n) → r ≡ endMark now n t → r ≡ endMark grid n t
+pub ends-same : (grid now : List ℕ) (n k t r : ℕ) → n ≤ 16 → t < 1024 → now ≡ filled grid 16499 k (endMark grid n) → r ≡ endMark now n t → r ≡ endMark grid n t
 unfolding endMark
-ends-same grid now n k t r ln lt e h = h ∙ seek-same n _ _ (λ v l. ap (λ x. x % 2) (ap (λ b. nth b (t * 16 + v)) e ∙ filled-before grid 16739 k (endMark grid n) (t * 16 + v) (omega arith)))
+ends-same grid now n k t r ln lt e h = h ∙ seek-same n _ _ (λ v l. ap (λ x. x % 2) (ap (λ b. nth b (t * 16 + v)) e ∙ filled-before grid 16499 k (endMark grid n) (t * 16 + v) (omega arith)))

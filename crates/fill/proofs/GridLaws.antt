@@ -1,13 +1,13 @@
 -- The grid of a sound list is right for the list's instance.
 -- Assumes nothing.
-use Prim.Native.Nat.{ℕ, zero, suc, _+_, _*_, _-_, _/_, _%_, _≤_, _<_, min}
+use Prim.Native.Nat.{ℕ, zero, suc, _+_, _*_, _-_, _/_, _%_, _≤_, _<_}
 use native.Mathlib.Omega.{arith}
-use native.Mathlib.Nat.{div-le-self, min-le-right}
+use native.Mathlib.Nat.{div-le-self}
 use mathlib.Core.Path.{_≡_, refl, sym, ap, ap₂, subst, _∙_}
 use mathlib.Core.Logic.{_≢_, _⊎_, inl, inr, ⊎-elim}
 use mathlib.Core.Bool.{_&&_}
 use mathlib.Core.List.{List}
-use lib.Dec.{T, eqb, leb, ltb}
+use lib.Dec.{T, eqb, ltb}
 use borrow.Author.Tests.{lt-ltb}
 use lib.ListN.{length, replicate, length-replicate}
 use lib.Arith.{digits-div, digits-mod}
@@ -30,9 +30,9 @@ use Rattle.sets.specs.Sets.{has}
 use Rattle.grid.specs.Grid.{coresOn, OnGrid}
 use Rattle.grid.specs.GridFor.{Small, entryOf, isQuick, GridFor}
 use Rattle.grid.proofs.GridForLaws.{test-same, counter-le}
-use Rattle.fill.specs.Grid.{Fit, entryFor, entryAt, evenPair, pairEven, rowEven, coresTwin, quickMark, fitMark, evenMarks, twinMarks, taskCount, coreCount, slotCount, fitMarks, marks, markAt, endMark, unmarkedOf, gridOf}
-use Rattle.fill.proofs.FillLaws.{test-even, test-twin, size-tasks, size-cores, size-slots, at-rate, at-rule, at-size, at-fit}
-use Rattle.fill.proofs.FitLaws.{mark-has, up-to-15}
+use Rattle.fill.specs.Grid.{Fit, entryFor, entryAt, evenPair, pairEven, rowEven, coresTwin, quickMark, ratedMark, evenMarks, twinMarks, taskCount, coreCount, slotCount, ratedMarks, marks, markAt, endMark, unmarkedOf, gridOf}
+use Rattle.fill.proofs.FillLaws.{test-even, test-twin, size-tasks, size-cores, size-slots, at-rate, at-rule, at-size, at-rated}
+use Rattle.fill.proofs.RatedLaws.{mark-has}
 
 -- ---- the list's instance
 -- what a sound list has for the grid
@@ -67,26 +67,26 @@ module _ {m : ℕ} (list : TaskList) (s : SoundList m (rows list)) where
 -- ---- reading the grid
 module _ (list : TaskList) (m e L : ℕ) (few : L ≤ 1024) where
   entries : List ℕ
-  entries = filled (replicate 17763 0) 0 (L * 16) (entryAt list L)
+  entries = filled (replicate 17523 0) 0 (L * 16) (entryAt list L)
 
   unmarked : List ℕ
-  unmarked = unmarkedOf list m e L (replicate 17763 0)
+  unmarked = unmarkedOf list m e L (replicate 17523 0)
 
   grid : List ℕ
-  grid = gridOf list m e L (replicate 17763 0)
+  grid = gridOf list m e L (replicate 17523 0)
 
-  entries-length : length entries ≡ 17763
+  entries-length : length entries ≡ 17523
   unfolding entries
-  entries-length = filled-length (replicate 17763 0) 0 (L * 16) (entryAt list L) ∙ length-replicate {A = ℕ} 17763 0
+  entries-length = filled-length (replicate 17523 0) 0 (L * 16) (entryAt list L) ∙ length-replicate {A = ℕ} 17523 0
 
-  unmarked-length : length unmarked ≡ 17763
+  unmarked-length : length unmarked ≡ 17523
   unfolding unmarked unmarkedOf entries
   unmarked-length = filled-length entries 16384 marks (markAt (list .n) (list .rates) m e L) ∙ entries-length
 
   -- below the marks of ends
-  below-ends : (x : ℕ) → x < 16739 → nth grid x ≡ nth unmarked x
+  below-ends : (x : ℕ) → x < 16499 → nth grid x ≡ nth unmarked x
   unfolding grid gridOf unmarked
-  below-ends x l = filled-before unmarked 16739 L (endMark unmarked (list .n)) x l
+  below-ends x l = filled-before unmarked 16499 L (endMark unmarked (list .n)) x l
 
   -- the entries
   at-entry : (x : ℕ) → x < L * 16 → nth grid x ≡ entryAt list L x
@@ -94,7 +94,7 @@ module _ (list : TaskList) (m e L : ℕ) (few : L ≤ 1024) where
   at-entry x l = below-ends x (omega arith)
       ∙ filled-before entries 16384 marks (markAt (list .n) (list .rates) m e L) x (omega arith)
       ∙ ap (nth entries) (omega arith)
-      ∙ filled-at (replicate 17763 0) 0 (L * 16) (entryAt list L) x l (rw (length-replicate {A = ℕ} 17763 0) (omega arith))
+      ∙ filled-at (replicate 17523 0) 0 (L * 16) (entryAt list L) x l (rw (length-replicate {A = ℕ} 17523 0) (omega arith))
 
   -- the marks
   at-mark : (p x : ℕ) → p ≡ 16384 + x → x < marks → nth grid p ≡ markAt (list .n) (list .rates) m e L x
@@ -102,10 +102,10 @@ module _ (list : TaskList) (m e L : ℕ) (few : L ≤ 1024) where
   at-mark p x z l = ap (nth grid) z ∙ below-ends (16384 + x) (omega arith) ∙ filled-at entries 16384 marks (markAt (list .n) (list .rates) m e L) x l (rw entries-length (omega arith))
 
   -- before the mark no entry of the slot is odd
-  at-ends : (t v : ℕ) → t < L → v < list .n → list .n ≤ 16 → v < nth grid (16739 + t) → nth grid (t * 16 + v) % 2 ≡ 0
+  at-ends : (t v : ℕ) → t < L → v < list .n → list .n ≤ 16 → v < nth grid (16499 + t) → nth grid (t * 16 + v) % 2 ≡ 0
   unfolding grid gridOf unmarked endMark
   at-ends t v lt lv ln before = ap (λ x. x % 2) (below-ends (t * 16 + v) (omega arith))
-      ∙ seek-before (list .n) (λ v. nth unmarked (t * 16 + v) % 2) v (omega (arith, filled-at unmarked 16739 L (endMark unmarked (list .n)) t lt (rw unmarked-length (omega arith))))
+      ∙ seek-before (list .n) (λ v. nth unmarked (t * 16 + v) % 2) v (omega (arith, filled-at unmarked 16499 L (endMark unmarked (list .n)) t lt (rw unmarked-length (omega arith))))
 
 -- ---- the list's rates
 -- the rate on a core, in the flat list
@@ -173,12 +173,12 @@ module _ {m : ℕ} (list : TaskList) (s : SoundList m (rows list)) where
 
   module _ (e : ℕ) where
     -- the marks of the list's own table
-    mark-at : (p x : ℕ) → p ≡ 16384 + x → x < marks → nth (gridOf list m e (tableLength (rows list)) (replicate 17763 0)) p ≡ markAt (list .n) (list .rates) m e (tableLength (rows list)) x
+    mark-at : (p x : ℕ) → p ≡ 16384 + x → x < marks → nth (gridOf list m e (tableLength (rows list)) (replicate 17523 0)) p ≡ markAt (list .n) (list .rates) m e (tableLength (rows list)) x
     unfolding grid
     mark-at = at-mark list m e (tableLength (rows list)) (s .few-slots)
 
     -- the grid is ready for the instance
-    pub grid-for : GridFor (ownInstance m (rows list)) e (gridOf list m e (tableLength (rows list)) (replicate 17763 0))
+    pub grid-for : GridFor (ownInstance m (rows list)) e (gridOf list m e (tableLength (rows list)) (replicate 17523 0))
     unfolding grid instanceOf quickMark
     grid-for = record {
       slots = mark-at 16482 slotCount refl (omega arith) ∙ at-size _ _ _ _ _ slotCount (omega arith) (omega arith) ∙ sym (size-slots _ _ _ slotCount (omega arith) (omega arith));
@@ -192,13 +192,9 @@ module _ {m : ℕ} (list : TaskList) (s : SoundList m (rows list)) where
           at-ends list m e (tableLength (rows list)) (s .few-slots) t v lt (is-task v lv .0) (omega (arith, rows-length list, s .few-tasks)) z;
       rates = λ v j lv lj. let few : j < 4 = omega (arith, s .few-cores) in let small : v < 16 = omega (arith, s .few-tasks) in
           mark-at (16384 + (v * 4 + j)) (v * 4 + j) refl (omega arith) ∙ at-rate _ _ _ _ _ _ (omega arith) ∙ rate-same v j lv few;
-      fits = λ v j w lv lj. let few : j < 4 = omega (arith, s .few-cores) in let small : v < 16 = omega (arith, s .few-tasks) in
-          let cap : min w 15 < 16 = omega (arith, min-le-right w 15) in
-          ap (λ x. has (x % 16) 0 j) (mark-at (16483 + (v * 16 + min w 15)) (fitMarks + (v * 16 + min w 15)) (omega arith) (omega arith) ∙ at-fit _ _ _ _ _ _ (omega arith) ∙ ap (fitMark (list .rates)) (omega arith))
-          ∙ mark-has (list .rates) v (min w 15) j cap few
-          ∙ ap (λ r. ltb 0 r && leb r (min w 15)) (rate-same v j lv few)
-          ∙ ap (λ b. ltb 0 (rate (task (rows list) (suc v)) j) && b)
-          (up-to-15 (rate (task (rows list) (suc v)) j) w (s .in-range (suc v) (omega arith) lv .rate-le j few));
+      rated = λ v j lv lj. let few : j < 4 = omega (arith, s .few-cores) in let small : v < 16 = omega (arith, s .few-tasks) in
+          ap (λ x. has (x % 16) 0 j) (mark-at (16483 + v) (ratedMarks + v) (omega arith) (omega arith) ∙ at-rated _ _ _ _ _ _ (omega arith) ∙ ap (ratedMark (list .rates)) (omega arith))
+          ∙ mark-has (list .rates) v j few ∙ ap (ltb 0) (rate-same v j lv few);
       evens = λ v lv. let small : v < 16 = omega (arith, s .few-tasks) in
           mark-at (16448 + v) (evenMarks + v) (omega arith) (omega arith) ∙ at-rule _ _ _ _ _ _ (omega arith) (omega arith)
           ∙ ap (λ b. gate (isQuick e && b) 1) (test-even _ _ _ (omega arith) ∙ ap (rowEven (list .rates)) (omega arith) ∙ even-same v lv);
@@ -210,10 +206,10 @@ module _ {m : ℕ} (list : TaskList) (s : SoundList m (rows list)) where
 
 -- ---- what the walk asks of a grid that was filled
 module _ (m : ℕ) (list : TaskList) (e L : ℕ) (sound : IsSound m (rows list)) (eL : L ≡ tableLength (rows list))
-    (grid : List ℕ) (eb : grid ≡ gridOf list m e L (replicate 17763 0)) where
+    (grid : List ℕ) (eb : grid ≡ gridOf list m e L (replicate 17523 0)) where
   -- it is the instance's
   pub filled-ready : GridFor (ownInstance m (rows list)) e grid
-  filled-ready = subst (GridFor (ownInstance m (rows list)) e) (sym (eb ∙ ap (λ n. gridOf list m e n (replicate 17763 0)) eL)) (grid-for list (sound-list m (rows list) sound) e)
+  filled-ready = subst (GridFor (ownInstance m (rows list)) e) (sym (eb ∙ ap (λ n. gridOf list m e n (replicate 17523 0)) eL)) (grid-for list (sound-list m (rows list) sound) e)
 
   -- and has a first cell
   pub filled-starts : OnGrid grid 0 × (0 < coresOn grid)

@@ -1,4 +1,4 @@
 pub mod FillLaws
-pub mod FitLaws
+pub mod RatedLaws
 pub mod GridLaws
 pub mod Calls

@@ -3,7 +3,7 @@
 use Prim.Native.Nat.{ℕ, suc, _+_, _*_, _-_, _/_, _%_, _≤_}
 use mathlib.Core.Bool.{Bool, cond, _&&_}
 use mathlib.Core.List.{List}
-use lib.Dec.{leb, ltb, eqb}
+use lib.Dec.{ltb, eqb}
 use Rattle.laws.specs.Sum.{gate}
 use Rattle.laws.specs.Tests.{all, imp}
 use Rattle.laws.specs.Lists.{nth, seek, filled}
@@ -51,14 +51,14 @@ coresTwin n rates a b = all n (λ v. eqb (nth rates (v * 4 + a)) (nth rates (v *
 unfoldable pub quickMark : ℕ → Bool → ℕ
 quickMark e b = gate (isQuick e && b) 1
 
--- 1 if a rate is positive and within so much work
-unfoldable pub fitBit : ℕ → ℕ → ℕ
-fitBit rate w = gate (ltb 0 rate && leb rate w) 1
+-- 1 if a rate is positive
+unfoldable pub ratedBit : ℕ → ℕ
+ratedBit rate = gate (ltb 0 rate) 1
 
--- the cores, as bits, on which the rate of task x / 16 is positive and within work x % 16
-unfoldable pub fitMark : List ℕ → ℕ → ℕ
-fitMark rates x =
-    let bit : ℕ → ℕ = λ j. fitBit (nth rates (x / 16 * 4 + j)) (x % 16) in
+-- the cores, as bits, on which the rate of task v is positive
+unfoldable pub ratedMark : List ℕ → ℕ → ℕ
+ratedMark rates v =
+    let bit : ℕ → ℕ = λ j. ratedBit (nth rates (v * 4 + j)) in
     bit 0 + 2 * bit 1 + 4 * bit 2 + 8 * bit 3
 
 -- where the parts between the entries and the marks of ends begin, counted from the first of them, the rates
@@ -77,12 +77,12 @@ coreCount = 97
 abbrev pub slotCount : ℕ
 slotCount = 98
 
-abbrev pub fitMarks : ℕ
-fitMarks = 99
+abbrev pub ratedMarks : ℕ
+ratedMarks = 99
 
 -- and how many places they have
 abbrev pub marks : ℕ
-marks = 355
+marks = 115
 
 -- the test for the mark at place x: rule A's of a task, and then rule B's of two cores
 unfoldable pub ruleTest : ℕ → List ℕ → ℕ → Bool
@@ -92,13 +92,13 @@ ruleTest n rates x = cond (ltb x twinMarks) (rowEven rates (x - evenMarks)) (cor
 unfoldable pub sizeAt : ℕ → ℕ → ℕ → ℕ → ℕ
 sizeAt n m L x = cond (eqb x taskCount) n (cond (eqb x coreCount) m L)
 
--- what stands at place x: the rates, the marks of rules A and B, the three numbers, the cores on which rates fit
+-- what stands at place x: the rates, the marks of rules A and B, the three numbers, the cores on which rates are positive
 unfoldable pub markAt : ℕ → List ℕ → ℕ → ℕ → ℕ → ℕ → ℕ
 markAt n rates m e L x =
     cond (ltb x evenMarks) (nth rates x)
     (cond (ltb x taskCount) (quickMark e (ruleTest n rates x))
-    (cond (ltb x fitMarks) (sizeAt n m L x)
-    (fitMark rates (x - fitMarks))))
+    (cond (ltb x ratedMarks) (sizeAt n m L x)
+    (ratedMark rates (x - ratedMarks))))
 
 -- the first task whose job has its highest-numbered slot in this slot, by its entry; n if there is none
 unfoldable pub endMark : List ℕ → ℕ → ℕ → ℕ
@@ -110,4 +110,4 @@ unmarkedOf list m e L s = filled (filled s 0 (L * 16) (entryAt list L)) 16384 ma
 
 -- the whole grid
 unfoldable pub gridOf : TaskList → ℕ → ℕ → ℕ → List ℕ → List ℕ
-gridOf list m e L s = filled (unmarkedOf list m e L s) 16739 L (endMark (unmarkedOf list m e L s) (list .n))
+gridOf list m e L s = filled (unmarkedOf list m e L s) 16499 L (endMark (unmarkedOf list m e L s) (list .n))

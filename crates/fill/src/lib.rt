@@ -3,18 +3,17 @@ ghost use mathlib.Core.Path.{_≡_};
 ghost use Prim.Native.Nat.{ℕ, suc, _*_, _≤_, _<_, _/_, _%_};
 ghost use Rattle.laws.specs.Lists.{filled};
 ghost use Rattle.tasks.specs.Task.{taskAt};
-ghost use Rattle.fill.specs.Grid.{Fit, entryFor, entryAt, evenPair, pairEven, rowEven, coresTwin, quickMark, fitBit, fitMark, ruleTest, sizeAt, markAt, endMark, gridOf};
+ghost use Rattle.fill.specs.Grid.{Fit, entryFor, entryAt, evenPair, pairEven, rowEven, coresTwin, quickMark, ratedBit, ratedMark, ruleTest, sizeAt, markAt, endMark, gridOf};
 use grid::CORES_AT;
 use grid::ENDS_AT;
 use grid::EVEN_AT;
-use grid::FITS_AT;
+use grid::RATED_AT;
 use grid::RATES_AT;
 use grid::TASKS_AT;
 use grid::TWINS_AT;
 use tasks::Slots;
 use tasks::Task;
 use tasks::TaskList;
-use tasks::Work;
 use windows::Window;
 
 // Twice the counter of a task in a slot where it is closed.
@@ -29,7 +28,7 @@ const TASK_COUNT: usize = TASKS_AT - RATES_AT;
 
 const CORE_COUNT: usize = CORES_AT - RATES_AT;
 
-const FIT_MARKS: usize = FITS_AT - RATES_AT;
+const RATED_MARKS: usize = RATED_AT - RATES_AT;
 
 // And how many places they have.
 const MARKS: usize = ENDS_AT - RATES_AT;
@@ -73,7 +72,7 @@ fn entry_at(list: TaskList, len: Slots, x: usize) -> u16
 }
 
 // The entries, slot by slot.
-fn fill_entries(grid: &mut [u16; 17763], list: TaskList, len: Slots)
+fn fill_entries(grid: &mut [u16; 17523], list: TaskList, len: Slots)
     requires { ⌜ (list .n ≤ 16) × (len .0 ≤ 1024) × ((k : ℕ) → k < list .n → Fit (len .0) (taskAt list k)) ⌝ }
     ensures { λ _. ⌜ now (grid .exit) ≡ filled (now (grid .entry)) 0 (len .0 * 16) (entryAt list (len .0)) ⌝ }
 {
@@ -153,28 +152,23 @@ fn quick_mark(engine: u8, test: bool) -> u16
     if test { 1 } else { 0 }
 }
 
-// 1 if a rate is positive and what it does in a slot is within so much work.
-fn fit_bit(rate: u8, work: Work) -> u16
-    ensures { λ r. ⌜ (r ≡ fitBit rate (work .0)) × (r ≤ 1) ⌝ }
+// 1 if a rate is positive.
+fn rated_bit(rate: u8) -> u16
+    ensures { λ r. ⌜ (r ≡ ratedBit rate) × (r ≤ 1) ⌝ }
 {
-    if rate == 0 {
-        return 0;
-    }
-    let done = tasks::work_in(rate as u16, Slots(1));
-    if work.0 < done.0 { 0 } else { 1 }
+    if rate == 0 { 0 } else { 1 }
 }
 
-// The mark at place x, sixteen a task: the cores, as bits, on which its rate is positive and within work x % 16.
-fn fit_mark(rates: [u8; 64], x: usize) -> u16
-    requires { ⌜ x < 256 ⌝ }
-    ensures { λ r. ⌜ r ≡ fitMark rates x ⌝ }
+// The cores, as bits, on which the rate of task v is positive.
+fn rated_mark(rates: [u8; 64], v: usize) -> u16
+    requires { ⌜ v < 16 ⌝ }
+    ensures { λ r. ⌜ r ≡ ratedMark rates v ⌝ }
 {
-    let k = x / 16 * 4;
-    let work = Work((x % 16) as u16);
-    fit_bit(rates[k], work)
-        + 2 * fit_bit(rates[k + 1], work)
-        + 4 * fit_bit(rates[k + 2], work)
-        + 8 * fit_bit(rates[k + 3], work)
+    let k = v * 4;
+    rated_bit(rates[k])
+        + 2 * rated_bit(rates[k + 1])
+        + 4 * rated_bit(rates[k + 2])
+        + 8 * rated_bit(rates[k + 3])
 }
 
 // The test for the mark at place x: rule A's of a task, and then rule B's of two cores.
@@ -204,7 +198,7 @@ fn size(n: u8, m: u8, slots: u16, x: usize) -> u16
 
 // What stands x places behind the first rate.
 fn mark(n: u8, rates: [u8; 64], m: u8, engine: u8, slots: u16, x: usize) -> u16
-    requires { ⌜ (n ≤ 16) × (x < 355) ⌝ }
+    requires { ⌜ (n ≤ 16) × (x < 115) ⌝ }
     ensures { λ r. ⌜ r ≡ markAt n rates m engine slots x ⌝ }
 {
     if x < EVEN_MARKS {
@@ -213,16 +207,16 @@ fn mark(n: u8, rates: [u8; 64], m: u8, engine: u8, slots: u16, x: usize) -> u16
     if x < TASK_COUNT {
         return quick_mark(engine, rule_test(n, rates, x));
     }
-    if x < FIT_MARKS {
+    if x < RATED_MARKS {
         return size(n, m, slots, x);
     }
-    fit_mark(rates, x - FIT_MARKS)
+    rated_mark(rates, x - RATED_MARKS)
 }
 
 // The marks, behind the entries.
-fn fill_marks(grid: &mut [u16; 17763], n: u8, rates: [u8; 64], m: u8, engine: u8, slots: u16)
+fn fill_marks(grid: &mut [u16; 17523], n: u8, rates: [u8; 64], m: u8, engine: u8, slots: u16)
     requires { ⌜ n ≤ 16 ⌝ }
-    ensures { λ _. ⌜ now (grid .exit) ≡ filled (now (grid .entry)) 16384 355 (markAt n rates m engine slots) ⌝ }
+    ensures { λ _. ⌜ now (grid .exit) ≡ filled (now (grid .entry)) 16384 115 (markAt n rates m engine slots) ⌝ }
 {
     let mut x: usize = 0;
     while x < MARKS {
@@ -232,7 +226,7 @@ fn fill_marks(grid: &mut [u16; 17763], n: u8, rates: [u8; 64], m: u8, engine: u8
 }
 
 // The first task whose job has its highest-numbered slot in this slot, by its entry; n if there is none.
-fn end_mark(grid: &[u16; 17763], n: usize, slot: usize) -> u16
+fn end_mark(grid: &[u16; 17523], n: usize, slot: usize) -> u16
     requires { ⌜ (n ≤ 16) × (slot < 1024) ⌝ }
     ensures { λ r. ⌜ r ≡ endMark (now (grid .entry)) n slot ⌝ }
 {
@@ -247,9 +241,9 @@ fn end_mark(grid: &[u16; 17763], n: usize, slot: usize) -> u16
 }
 
 // The marks of the slots in which jobs end, by the entries.
-fn fill_ends(grid: &mut [u16; 17763], n: usize, slots: usize)
+fn fill_ends(grid: &mut [u16; 17523], n: usize, slots: usize)
     requires { ⌜ (n ≤ 16) × (slots ≤ 1024) ⌝ }
-    ensures { λ _. ⌜ now (grid .exit) ≡ filled (now (grid .entry)) 16739 slots (endMark (now (grid .entry)) n) ⌝ }
+    ensures { λ _. ⌜ now (grid .exit) ≡ filled (now (grid .entry)) 16499 slots (endMark (now (grid .entry)) n) ⌝ }
 {
     let mut slot: usize = 0;
     while slot < slots {
@@ -260,7 +254,7 @@ fn fill_ends(grid: &mut [u16; 17763], n: usize, slots: usize)
 }
 
 // The whole grid.
-pub fn fill_grid(grid: &mut [u16; 17763], list: TaskList, m: u8, engine: u8, len: Slots)
+pub fn fill_grid(grid: &mut [u16; 17523], list: TaskList, m: u8, engine: u8, len: Slots)
     requires { ⌜ (list .n ≤ 16) × (len .0 ≤ 1024) × ((k : ℕ) → k < list .n → Fit (len .0) (taskAt list k)) ⌝ }
     ensures { λ _. ⌜ now (grid .exit) ≡ gridOf list m engine (len .0) (now (grid .entry)) ⌝ }
 {

@@ -10,13 +10,14 @@ use mathlib.Core.Logic.{_≢_}
 use mathlib.Core.Bool.{Bool, true, false, cond, not, _&&_}
 use mathlib.Core.List.{List, [], _∷_}
 use lib.Arith.{digits-div, digits-mod}
-use lib.Dec.{T, leb, ltb, eqb, leb→le, le→leb, ltb→lt, eqb→eq, T-not}
+use lib.Dec.{T, leb, ltb, eqb, ltb→lt, eqb→eq, T-not}
 use lib.ListN.{length, set}
 use lib.Seq.{getD-set-same, getD-set-other}
 use borrow.Author.Tests.{leb-false, le-leb, eq-eqb, ne-eqb}
 use Rattle.laws.specs.Sum.{gate, sum}
 use Rattle.laws.specs.Tests.{every, all, imp}
 use Rattle.laws.specs.Lists.{nth}
+use Rattle.laws.proofs.SumLaws.{gate-le}
 use Rattle.laws.proofs.TestLaws.{both, make-both, every-holds, holds-every, all-at, at-all, all-same, all-true, imp-use, imp-make}
 use Rattle.tasks.specs.Instance.{Instance, jobEnd}
 use Rattle.table.specs.Table.{slotOf, coreOf, beside, share, done, workLeft, free}
@@ -25,8 +26,8 @@ use Rattle.table.proofs.TableLaws.{beside-before, done-same}
 use Rattle.table.proofs.ShareLaws.{share-none, share-own}
 use Rattle.rules.specs.Rules.{tests, permitted, settled, allSettled}
 use Rattle.sets.specs.Sets.{has, without}
-use Rattle.sets.proofs.SetLaws.{without-has}
-use Rattle.grid.specs.Grid.{entryOn, endsOn, rateOn, tasksOn, counterOn, fitOn, setsOn, settledOn, allSettledOn}
+use Rattle.sets.proofs.SetLaws.{none-has, without-has}
+use Rattle.grid.specs.Grid.{entryOn, endsOn, rateOn, tasksOn, counterOn, ratedOn, fitOn, setsOn, settledOn, allSettledOn}
 use Rattle.grid.specs.GridFor.{Small, counterOf, closedCounter, entryOf, GridFor, Lefts}
 use Rattle.grid.proofs.ReadLaws.{sets-has}
 
@@ -58,12 +59,6 @@ module _ (P : Instance) (i t : ℕ) where
       go true h = absurd (h tt)
       go false h = refl
 
--- 1 or 0
-gate-one : (b : Bool) → gate b 1 ≤ 1
-unfolding gate
-gate-one true = omega arith
-gate-one false = omega arith
-
 -- 1 exactly if the test passes
 gate-odd : (b : Bool) → gate b 1 ≢ 0 → T b
 unfolding gate
@@ -75,6 +70,12 @@ unfolding gate
 gate-pass true h = refl
 gate-pass false h = absurd h
 
+-- bits that a test lets through
+gate-has : (b : Bool) (s j : ℕ) → has (gate b s) 0 j ≡ b && has s 0 j
+unfolding gate
+gate-has true s j = refl
+gate-has false s j = none-has 0 j
+
 -- a test that passes or does not
 pub test-cases : {A : Type 0} (b : Bool) → (T b → A) → ((T b → ⊥) → A) → A
 test-cases true f g = f tt
@@ -84,7 +85,7 @@ test-cases false f g = g (λ x. x)
 -- whether task v + 1 may stand on core j of a slot, after the cells before c
 abbrev may-tests : Instance → ℕ → ℕ → (ℕ → ℕ) → ℕ → ℕ → List Bool
 may-tests P slot c f v j =
-    P .opens (suc v) slot ∷ ltb 0 (P .rate (suc v) j) ∷ free P c f (suc v) ∷ leb (P .rate (suc v) j) (workLeft P c f (suc v) (P .job (suc v) slot)) ∷ []
+    P .opens (suc v) slot ∷ ltb 0 (P .rate (suc v) j) ∷ free P c f (suc v) ∷ ltb 0 (workLeft P c f (suc v) (P .job (suc v) slot)) ∷ []
 
 -- the sets have the tasks that may stand on the cores from `core` on
 pub record Sets (P : Instance) (slot core c : ℕ) (f : ℕ → ℕ) (sets : ℕ) : Type 0 where
@@ -95,7 +96,7 @@ pub sets-same : {P : Instance} {slot core c : ℕ} {f g : ℕ → ℕ} {sets : �
 unfolding free
 sets-same {P} {slot} {c = c} {f} {g} h holds = record {
   may = λ v j lv lo hi. holds .may v j lv lo hi
-      ∙ ap₂ (λ a b. every (P .opens (suc v) slot ∷ ltb 0 (P .rate (suc v) j) ∷ a ∷ leb (P .rate (suc v) j) (P .work (suc v) - b) ∷ [])) (free-same (suc v)) (done-same P c f g h (suc v) (P .job (suc v) slot));
+      ∙ ap₂ (λ a b. every (P .opens (suc v) slot ∷ ltb 0 (P .rate (suc v) j) ∷ a ∷ ltb 0 (P .work (suc v) - b) ∷ [])) (free-same (suc v)) (done-same P c f g h (suc v) (P .job (suc v) slot));
 }
   where
     free-same : (i : ℕ) → free P c f i ≡ free P c g i
@@ -105,11 +106,11 @@ module _ {P : Instance} {e : ℕ} {grid : List ℕ} (small : Small P) (ready : G
   module _ {slot v : ℕ} (ls : slot < P .slots) (lv : v < P .tasks) where
     -- where the task is open, the counter is its job's
     pub counter-open : T (P .opens (suc v) slot) → counterOn grid slot v ≡ counterOf (suc v) (P .job (suc v) slot)
-    counter-open o = omega (arith, ready .entries slot v ls lv ∙ entry-open P (suc v) slot o, gate-one (eqb (jobEnd P (suc v) (P .job (suc v) slot)) slot))
+    counter-open o = omega (arith, ready .entries slot v ls lv ∙ entry-open P (suc v) slot o, gate-le (eqb (jobEnd P (suc v) (P .job (suc v) slot)) slot) 1)
 
     -- an odd entry is that of a job's highest-numbered slot
     pub entry-odd : T (P .opens (suc v) slot) → entryOn grid slot v % 2 ≡ gate (eqb (jobEnd P (suc v) (P .job (suc v) slot)) slot) 1
-    entry-odd o = omega (arith, ready .entries slot v ls lv ∙ entry-open P (suc v) slot o, gate-one (eqb (jobEnd P (suc v) (P .job (suc v) slot)) slot))
+    entry-odd o = omega (arith, ready .entries slot v ls lv ∙ entry-open P (suc v) slot o, gate-le (eqb (jobEnd P (suc v) (P .job (suc v) slot)) slot) 1)
 
     -- a task that is closed there has the counter for that, and an even entry
     pub counter-closed : (T (P .opens (suc v) slot) → ⊥) → (counterOn grid slot v ≡ closedCounter) × (entryOn grid slot v % 2 ≡ 0)
@@ -284,7 +285,7 @@ module _ {P : Instance} {e : ℕ} {grid : List ℕ} (small : Small P) (ready : G
 
       -- another task may stand there as before
       may-other : (v j : ℕ) → suc v ≢ w → every (may-tests P slot (suc (first + core)) (nth (set t (first + core) w)) v j) ≡ every (may-tests P slot (first + core) (nth t) v j)
-      may-other v j x = ap₂ (λ a b. every (P .opens (suc v) slot ∷ ltb 0 (P .rate (suc v) j) ∷ a ∷ leb (P .rate (suc v) j) (P .work (suc v) - b) ∷ [])) same-free same-done
+      may-other v j x = ap₂ (λ a b. every (P .opens (suc v) slot ∷ ltb 0 (P .rate (suc v) j) ∷ a ∷ ltb 0 (P .work (suc v) - b) ∷ [])) same-free same-done
         where
           and-true : (b : Bool) → b && true ≡ b
           and-true true = refl
@@ -324,7 +325,8 @@ module _ {P : Instance} {e : ℕ} {grid : List ℕ} (small : Small P) (ready : G
   sets-start {first} {slot} ef ls t l lefts = record {
     may = λ v j lv _ lj. sets-has grid l slot (tasksOn grid) 0 v j (rw (ready .tasks) lv) (omega (arith, small .few-cores))
         ∙ ap (λ x. has (fitOn grid x (nth l (counterOn grid slot x))) 0 j) (zero-add v)
-        ∙ ready .fits v j (nth l (counterOn grid slot v)) lv lj
+        ∙ gate-has (ltb 0 (nth l (counterOn grid slot v))) (ratedOn grid v) j
+        ∙ ap (λ b. ltb 0 (nth l (counterOn grid slot v)) && b) (ready .rated v j lv lj)
         ∙ fitting v j lv;
   }
     where
@@ -334,11 +336,10 @@ module _ {P : Instance} {e : ℕ} {grid : List ℕ} (small : Small P) (ready : G
       is-free : (i : ℕ) → free P first (nth t) i ≡ true
       is-free i = rw core-zero
 
-      fitting : (v j : ℕ) → v < P .tasks → ltb 0 (P .rate (suc v) j) && leb (P .rate (suc v) j) (nth l (counterOn grid slot v)) ≡ every (may-tests P slot first (nth t) v j)
+      fitting : (v j : ℕ) → v < P .tasks → ltb 0 (nth l (counterOn grid slot v)) && ltb 0 (P .rate (suc v) j) ≡ every (may-tests P slot first (nth t) v j)
       fitting v j lv = test-same _ _
-          (λ h. let p = both (ltb 0 (P .rate (suc v) j)) (leb (P .rate (suc v) j) (nth l (counterOn grid slot v))) h in test-cases (P .opens (suc v) slot)
-          (λ o. holds-every (may-tests P slot first (nth t) v j) (o, (p .0, (rw (is-free (suc v)) tt, (le→leb (P .rate (suc v) j) _ (omega (arith, left-open ls lv first (nth t) l lefts o, leb→le (P .rate (suc v) j) _ (p .1))), tt)))))
-          (λ x. absurd (omega (arith, ltb→lt 0 (P .rate (suc v) j) (p .0), leb→le (P .rate (suc v) j) _ (p .1), lefts .none-closed, ap (nth l) (counter-closed ls lv x .0)))))
+          (λ h. let p = both (ltb 0 (nth l (counterOn grid slot v))) (ltb 0 (P .rate (suc v) j)) h in test-cases (P .opens (suc v) slot)
+          (λ o. holds-every (may-tests P slot first (nth t) v j) (o, (p .1, (rw (is-free (suc v)) tt, (rw (left-open ls lv first (nth t) l lefts o) at (p .0), tt)))))
+          (λ x. absurd (omega (arith, ltb→lt 0 (nth l (counterOn grid slot v)) (p .0), lefts .none-closed, ap (nth l) (counter-closed ls lv x .0)))))
           (λ h. let p = every-holds (may-tests P slot first (nth t) v j) h in
-          make-both (ltb 0 (P .rate (suc v) j)) (leb (P .rate (suc v) j) (nth l (counterOn grid slot v))) (p .1 .0)
-          (le→leb (P .rate (suc v) j) _ (omega (arith, left-open ls lv first (nth t) l lefts (p .0), leb→le (P .rate (suc v) j) _ (p .1 .1 .1 .0)))))
+          make-both (ltb 0 (nth l (counterOn grid slot v))) (ltb 0 (P .rate (suc v) j)) (rw (left-open ls lv first (nth t) l lefts (p .0)) (p .1 .1 .1 .0)) (p .1 .0))

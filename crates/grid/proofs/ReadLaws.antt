@@ -1,23 +1,24 @@
 -- The tests of the walk on its arrays, as its loops find them.
 -- Assumes nothing.
-use Prim.Native.Nat.{ℕ, zero, suc, _+_, _*_, _-_, _%_, _^_, _≤_, _<_, max, min}
+use Prim.Native.Nat.{ℕ, zero, suc, _+_, _*_, _-_, _/_, _%_, _^_, _≤_, _<_, max}
 use native.Mathlib.Omega.{arith}
 use native.Mathlib.Numerals.{add-one}
-use native.Mathlib.Nat.{add-zero, mod-lt, lt-of-lt-of-le, pow-le-pow-right}
+use native.Mathlib.Nat.{add-zero, lt-of-lt-of-le, pow-le-pow-right}
 use mathlib.Core.Path.{_≡_, refl, sym, ap, ap₂, _∙_}
 use mathlib.Core.Logic.{_≢_}
 use mathlib.Core.Bool.{Bool, true, false}
 use mathlib.Core.List.{List}
-use lib.Dec.{leb, eqb}
+use lib.Dec.{leb, ltb, eqb}
 use borrow.Author.Tests.{leb-true, le-leb, eq-eqb, ne-eqb}
 use Rattle.laws.specs.Lists.{nth}
 use Rattle.laws.specs.Sum.{gate}
 use Rattle.laws.specs.Order.{rankOf}
 use Rattle.laws.specs.Tests.{imp}
+use Rattle.laws.proofs.SumLaws.{gate-lt, gate-le}
 use Rattle.laws.proofs.TestLaws.{all-false, all-true}
 use Rattle.sets.specs.Sets.{has, pushed}
 use Rattle.sets.proofs.SetLaws.{none-has, pushed-first, pushed-next, pushed-lt}
-use Rattle.grid.specs.Grid.{most, entryOn, endsOn, twinOn, tasksOn, slotsOn, counterOn, fitOn, setsFrom, setsOn, twinRankOn, floorOn, settledOn, allSettledOn, OnGrid}
+use Rattle.grid.specs.Grid.{most, entryOn, endsOn, twinOn, tasksOn, slotsOn, counterOn, ratedOn, fitOn, setsFrom, setsOn, twinRankOn, floorOn, settledOn, allSettledOn, OnGrid}
 
 -- ---- another slot of the grid
 pub at-slot : {grid : List ℕ} {slot t : ℕ} → OnGrid grid slot → t < slotsOn grid → OnGrid grid t
@@ -86,11 +87,23 @@ module _ (grid t : List ℕ) (first core j : ℕ) where
       rank-same zero h = absurd (h refl)
       rank-same (suc y) h = refl
 
--- ---- the sets of a slot
--- the cores that a task fits
-pub fit-is : (grid : List ℕ) (v w x : ℕ) → x ≡ min w 15 → nth grid (16483 + (v * 16 + x)) % 16 ≡ fitOn grid v w
-fit-is grid v w x e = ap (λ x. nth grid (16483 + (v * 16 + x)) % 16) e
+-- ---- work left
+-- 1 if there is some, by reckoning
+pub some-is : (w : ℕ) → w < 65536 → (w + 65535) / 65536 ≡ gate (ltb 0 w) 1
+unfolding gate
+some-is zero l = refl
+some-is (suc w) l = omega (arith, gate-lt 0 (suc w) 1 (omega arith))
 
+-- cores times 1 or 0 are let through or not
+pub fit-times : (w x : ℕ) {some : ℕ} → some ≡ gate (ltb 0 w) 1 → (some * (x % 16) ≡ gate (ltb 0 w) (x % 16)) × (some * (x % 16) < 16)
+unfolding gate
+fit-times w x e = rw e (go (ltb 0 w))
+  where
+    go : (b : Bool) → (gate b 1 * (x % 16) ≡ gate b (x % 16)) × (gate b 1 * (x % 16) < 16)
+    go true = (omega arith, omega arith)
+    go false = (omega arith, omega arith)
+
+-- ---- the sets of a slot
 module _ (grid l : List ℕ) (slot : ℕ) where
   -- no task yet
   pub sets-none-yet : (n : ℕ) → n ≡ tasksOn grid → 0 ≡ setsFrom grid l slot (tasksOn grid - n) n
@@ -109,11 +122,15 @@ module _ (grid l : List ℕ) (slot : ℕ) where
   pub sets-all : (n s : ℕ) → n ≡ 0 → s ≡ setsFrom grid l slot (tasksOn grid - n) n → s ≡ setsOn grid l slot
   sets-all n s z e = let all : tasksOn grid - n ≡ tasksOn grid = omega arith in e ∙ (λ i. setsFrom grid l slot (all i) (z i))
 
-  -- j tasks have 4 * j bits
+  -- a task has 4 bits
+  fit-lt : (v : ℕ) → fitOn grid v (nth l (counterOn grid slot v)) < 16
+  fit-lt v = omega (arith, gate-le (ltb 0 (nth l (counterOn grid slot v))) (ratedOn grid v))
+
+  -- and j tasks 4 * j
   pub sets-lt : (j v : ℕ) → setsFrom grid l slot j v < 16 ^ j
   unfolding setsFrom
   sets-lt zero v = omega arith
-  sets-lt (suc j) v = pushed-lt (setsFrom grid l slot j (suc v)) _ j (sets-lt j (suc v)) (mod-lt _ (omega arith))
+  sets-lt (suc j) v = pushed-lt (setsFrom grid l slot j (suc v)) _ j (sets-lt j (suc v)) (fit-lt v)
 
   -- there is room for one more
   pub sets-room : (n s : ℕ) → tasksOn grid ≤ 16 → 0 < n → n ≤ tasksOn grid → s ≡ setsFrom grid l slot (tasksOn grid - n) n → s < 2 ^ 60
@@ -121,12 +138,12 @@ module _ (grid l : List ℕ) (slot : ℕ) where
       let up : 16 ^ (tasksOn grid - n) ≤ 16 ^ 15 = pow-le-pow-right (omega arith) {j = 15} (omega arith) in
       rw es (lt-of-lt-of-le (sets-lt (tasksOn grid - n) n) up)
 
-  -- a task is in the set of a core if its rate there fits
+  -- a task is in the set of a core if its own bits have the core
   pub sets-has : (j v w c : ℕ) → w < j → c < 4 → has (setsFrom grid l slot j v) w c ≡ has (fitOn grid (v + w) (nth l (counterOn grid slot (v + w)))) 0 c
   unfolding setsFrom
   sets-has zero v w c lw lc = absurd (omega arith)
-  sets-has (suc j) v zero c lw lc = pushed-first _ _ c (mod-lt _ (omega arith)) lc ∙ ap (λ x. has (fitOn grid x (nth l (counterOn grid slot x))) 0 c) (sym (add-zero v))
-  sets-has (suc j) v (suc w) c lw lc = pushed-next _ _ w c (mod-lt _ (omega arith)) ∙ sets-has j (suc v) w c (omega arith) lc
+  sets-has (suc j) v zero c lw lc = pushed-first _ _ c (fit-lt v) lc ∙ ap (λ x. has (fitOn grid x (nth l (counterOn grid slot x))) 0 c) (sym (add-zero v))
+  sets-has (suc j) v (suc w) c lw lc = pushed-next _ _ w c (fit-lt v) ∙ sets-has j (suc v) w c (omega arith) lc
       ∙ ap (λ x. has (fitOn grid x (nth l (counterOn grid slot x))) 0 c) (omega arith)
 
   -- and no other task
@@ -134,4 +151,4 @@ module _ (grid l : List ℕ) (slot : ℕ) where
   unfolding setsFrom
   sets-none zero v w c l = none-has w c
   sets-none (suc j) v zero c l = absurd (omega arith)
-  sets-none (suc j) v (suc w) c l = pushed-next _ _ w c (mod-lt _ (omega arith)) ∙ sets-none j (suc v) w c (omega arith)
+  sets-none (suc j) v (suc w) c l = pushed-next _ _ w c (fit-lt v) ∙ sets-none j (suc v) w c (omega arith)

@@ -1,9 +1,9 @@
 -- What stands on the grid, whose parts are drawn at the head of src/lib.rt, and what the walk reads there with the table and the work left.
 -- Assumes nothing.
-use Prim.Native.Nat.{ℕ, zero, suc, _+_, _*_, _/_, _%_, _≤_, _<_, max, min}
+use Prim.Native.Nat.{ℕ, zero, suc, _+_, _*_, _/_, _%_, _≤_, _<_, max}
 use mathlib.Core.Bool.{Bool, not}
 use mathlib.Core.List.{List}
-use lib.Dec.{leb, eqb}
+use lib.Dec.{leb, ltb, eqb}
 use Rattle.laws.specs.Sum.{gate}
 use Rattle.laws.specs.Tests.{all, imp}
 use Rattle.laws.specs.Lists.{nth}
@@ -51,11 +51,15 @@ cellsOn grid = slotsOn grid * coresOn grid
 abbrev pub counterOn : List ℕ → ℕ → ℕ → ℕ
 counterOn grid slot v = entryOn grid slot v / 2
 
--- the cores, as bits, on which task v has a positive rate within so much work
-abbrev pub fitOn : List ℕ → ℕ → ℕ → ℕ
-fitOn grid v w = nth grid (16483 + (v * 16 + min w 15)) % 16
+-- the cores, as bits, on which task v has a positive rate
+abbrev pub ratedOn : List ℕ → ℕ → ℕ
+ratedOn grid v = nth grid (16483 + v) % 16
 
--- the sets of the tasks v, v + 1, .., j of them, whose rate on a core is positive and within the work left in the slot
+-- the same, if there is work
+abbrev pub fitOn : List ℕ → ℕ → ℕ → ℕ
+fitOn grid v w = gate (ltb 0 w) (ratedOn grid v)
+
+-- the sets of the tasks v, v + 1, .., j of them, that have work left in the slot, on the cores where their rate is positive
 unfoldable pub setsFrom : List ℕ → List ℕ → ℕ → ℕ → ℕ → ℕ
 setsFrom grid l slot zero v = 0
 setsFrom grid l slot (suc j) v = pushed (setsFrom grid l slot j (suc v)) (fitOn grid v (nth l (counterOn grid slot v)))
@@ -78,7 +82,7 @@ settledOn grid l slot v = imp (not (eqb (entryOn grid slot v % 2) 0)) (eqb (nth 
 
 -- the slot's mark: the task with which the look at its jobs begins, since no task before it has a job that ends here (`GridFor`)
 abbrev pub endsOn : List ℕ → ℕ → ℕ
-endsOn grid slot = nth grid (16739 + slot)
+endsOn grid slot = nth grid (16499 + slot)
 
 -- each job whose highest-numbered slot this is has no work left
 unfoldable pub allSettledOn : List ℕ → List ℕ → ℕ → Bool

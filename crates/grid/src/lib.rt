@@ -8,17 +8,18 @@
 //      16448   even: for rule A, 1 for a task whose positive rates are equal                16
 //      16464   twins: for rule B, at c * 4 + j, 1 if cores c and j are twins; read for j < c 4 * 4
 //      16480   the task count, the cores, the slots                                          3
-//      16483   fits: for task v and work w up to 15, at v * 16 + w, the cores, as bits,
-//              on which its rate is positive and within that work                           16 * 16
-//      16739   ends: for each slot the first task whose job has its highest-numbered
+//      16483   rated: for task v, at v, the cores, as bits, on which its rate is positive   16
+//      16499   ends: for each slot the first task whose job has its highest-numbered
 //              slot there; the task count if there is none                                1024
-//      17763
+//      17523
 //
 // The marks of rules A and B are 0 for the plain engine. Tasks and cores count from 0 here.
 // Beside the grid stands `left`, the work left of each job at its counter, job * 16 + task; its last place, 16384, is the
 // counter of a task in a slot where it is closed, and is always 0.
 ghost use mathlib.Core.Path.{_≡_};
-ghost use Prim.Native.Nat.{_+_, _≤_, _<_, min};
+ghost use Prim.Native.Nat.{_+_, _≤_, _<_};
+ghost use lib.Dec.{ltb};
+ghost use Rattle.laws.specs.Sum.{gate};
 ghost use Rattle.grid.specs.Grid.{counterOn, rateOn, fitOn, setsOn, twinRankOn, floorOn, settledOn, allSettledOn, tasksOn, OnGrid};
 use tasks::Work;
 
@@ -35,9 +36,9 @@ pub const CORES_AT: usize = 16481;
 
 pub const SLOTS_AT: usize = 16482;
 
-pub const FITS_AT: usize = 16483;
+pub const RATED_AT: usize = 16483;
 
-pub const ENDS_AT: usize = 16739;
+pub const ENDS_AT: usize = 16499;
 
 // A number of the grid as an index, and that it is one of 16 bits.
 pub fn wide(x: u16) -> usize
@@ -54,7 +55,7 @@ fn byte(x: u8) -> usize
 }
 
 // The counter of the work left of a task's job in a slot.
-pub fn counter(grid: &[u16; 17763], slot: usize, task: usize) -> usize
+pub fn counter(grid: &[u16; 17523], slot: usize, task: usize) -> usize
     requires { ⌜ OnGrid (now grid) slot × (task < tasksOn (now grid)) ⌝ }
     ensures { λ r. ⌜ (r ≡ counterOn (now (grid .entry)) slot task) × (r ≤ 16384) ⌝ }
 {
@@ -62,30 +63,30 @@ pub fn counter(grid: &[u16; 17763], slot: usize, task: usize) -> usize
 }
 
 // The rate of a task on a core.
-pub fn rate(grid: &[u16; 17763], task: usize, core: usize) -> u16
+pub fn rate(grid: &[u16; 17523], task: usize, core: usize) -> u16
     requires { ⌜ (task < 16) × (core < 4) ⌝ }
     ensures { λ r. ⌜ r ≡ rateOn (now (grid .entry)) task core ⌝ }
 {
     grid[RATES_AT + (task * 4 + core)]
 }
 
-// So much work, up to 15: no rate is more.
-fn up_to_15(work: Work) -> usize
-    ensures { λ r. ⌜ (r ≡ min (work .0) 15) × (r ≤ 15) ⌝ }
+// 1 if there is work, else 0: reckoned, since a branch on it would be foreseen badly.
+fn some(work: Work) -> u64
+    ensures { λ r. ⌜ r ≡ gate (ltb 0 (work .0)) 1 ⌝ }
 {
-    if work.0 < 15 { work.0 as usize } else { 15 }
+    (work.0 as u64 + 65535) / 65536
 }
 
-// The cores, as bits, on which a task has a positive rate within so much work.
-fn fit(grid: &[u16; 17763], task: usize, work: Work) -> u64
+// The cores, as bits, on which a task has a positive rate, if there is work.
+fn fit(grid: &[u16; 17523], task: usize, work: Work) -> u64
     requires { ⌜ task < 16 ⌝ }
     ensures { λ r. ⌜ (r ≡ fitOn (now (grid .entry)) task (work .0)) × (r < 16) ⌝ }
 {
-    (grid[FITS_AT + (task * 16 + up_to_15(work))] % 16) as u64
+    some(work) * (grid[RATED_AT + task] % 16) as u64
 }
 
 // The sets of the tasks that may stand in a slot, where nothing stands yet.
-pub fn enter(grid: &[u16; 17763], left: &[u16; 16385], slot: usize) -> u64
+pub fn enter(grid: &[u16; 17523], left: &[u16; 16385], slot: usize) -> u64
     requires { ⌜ OnGrid (now grid) slot ⌝ }
     ensures { λ r. ⌜ r ≡ setsOn (now (grid .entry)) (now (left .entry)) slot ⌝ }
 {
@@ -100,7 +101,7 @@ pub fn enter(grid: &[u16; 17763], left: &[u16; 16385], slot: usize) -> u64
 }
 
 // The rank of the value on core j of a slot, if that is an earlier twin of a core; else 0. Idle ranks last.
-fn twin_rank(grid: &[u16; 17763], table: &[u8; 4096], first: usize, core: usize, j: usize) -> usize
+fn twin_rank(grid: &[u16; 17523], table: &[u8; 4096], first: usize, core: usize, j: usize) -> usize
     requires { ⌜ (core < 4) × (j < core) × (first + core ≤ 4096) ⌝ }
     ensures { λ r. ⌜ (r ≡ twinRankOn (now (grid .entry)) (now (table .entry)) first core j) × (r ≤ 65536) ⌝ }
 {
@@ -115,7 +116,7 @@ fn twin_rank(grid: &[u16; 17763], table: &[u8; 4096], first: usize, core: usize,
 }
 
 // The rank below which rule B bars a value: the highest on an earlier twin.
-pub fn floor(grid: &[u16; 17763], table: &[u8; 4096], first: usize, core: usize) -> usize
+pub fn floor(grid: &[u16; 17523], table: &[u8; 4096], first: usize, core: usize) -> usize
     requires { ⌜ (core < 4) × (first + core ≤ 4096) ⌝ }
     ensures { λ r. ⌜ r ≡ floorOn (now (grid .entry)) (now (table .entry)) first core ⌝ }
 {
@@ -132,7 +133,7 @@ pub fn floor(grid: &[u16; 17763], table: &[u8; 4096], first: usize, core: usize)
 }
 
 // Whether a task's job has no work left, if this is its highest-numbered slot.
-fn settled(grid: &[u16; 17763], left: &[u16; 16385], slot: usize, task: usize) -> bool
+fn settled(grid: &[u16; 17523], left: &[u16; 16385], slot: usize, task: usize) -> bool
     requires { ⌜ OnGrid (now grid) slot × (task < tasksOn (now grid)) ⌝ }
     ensures { λ r. ⌜ r ≡ settledOn (now (grid .entry)) (now (left .entry)) slot task ⌝ }
 {
@@ -145,7 +146,7 @@ fn settled(grid: &[u16; 17763], left: &[u16; 16385], slot: usize, task: usize) -
 }
 
 // Whether each job whose highest-numbered slot this is has no work left.
-pub fn all_settled(grid: &[u16; 17763], left: &[u16; 16385], slot: usize) -> bool
+pub fn all_settled(grid: &[u16; 17523], left: &[u16; 16385], slot: usize) -> bool
     requires { ⌜ OnGrid (now grid) slot ⌝ }
     ensures { λ r. ⌜ r ≡ allSettledOn (now (grid .entry)) (now (left .entry)) slot ⌝ }
 {

@@ -37,6 +37,12 @@ gate-eq a b x h = rw h (gate-yes (eqb b b) x (eqb-refl b))
 pub gate-ne : (a b x : ℕ) → a ≢ b → gate (eqb a b) x ≡ 0
 gate-ne a b x h = gate-no (eqb a b) x (λ t. h (eqb→eq a b t))
 
+-- a gate lets through no more than there is
+pub gate-le : (b : Bool) (x : ℕ) → gate b x ≤ x
+unfolding gate
+gate-le true x = omega arith
+gate-le false x = omega arith
+
 -- a gate of 0 is 0
 pub gate-zero : (b : Bool) → gate b 0 ≡ 0
 unfolding gate

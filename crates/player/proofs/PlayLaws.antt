@@ -78,14 +78,16 @@ module _ {m : ℕ} {ts : List Task} (s : SoundList m ts) where
         ∙ sum-ext m _ _ (λ j n. shown-late t j _ n late)
 
     -- each window gets the work of its job
-    pub plays-work : (K : ℕ) → sum (task ts i .deadline .0) (λ u. let t = task ts i .offset .0 + (K * task ts i .period .0 + u) in
-        sum 4 (λ j. gate (eqb (shownAs m ts t j (f (cellAt t j))) i) (rate (task ts i) j))) ≡ task ts i .work .0
+    pub plays-work : (K : ℕ) → task ts i .work .0 ≤ sum (task ts i .deadline .0) (λ u. let t = task ts i .offset .0 + (K * task ts i .period .0 + u) in
+        sum 4 (λ j. gate (eqb (shownAs m ts t j (f (cellAt t j))) i) (rate (task ts i) j)))
     unfolding instanceOf
-    plays-work K =
-        sum-ext (task ts i .deadline .0) _ _ (λ u n. units-late (task ts i .offset .0 + (K * task ts i .period .0 + u)) (omega arith))
-        ∙ sym (work-at windows (task ts i .offset .0) K (units m ts f i))
-        ∙ sym (done-work (tableLength ts) m ts f i (K % (tableLength ts / task ts i .period .0)))
-        ∙ v .full i (K % (tableLength ts / task ts i .period .0)) x l (mod-lt K (windows .some-jobs))
+    plays-work K = omega (
+      arith,
+      sum-ext (task ts i .deadline .0) _ _ (λ u n. units-late (task ts i .offset .0 + (K * task ts i .period .0 + u)) (omega arith))
+          ∙ sym (work-at windows (task ts i .offset .0) K (units m ts f i))
+          ∙ sym (done-work (tableLength ts) m ts f i (K % (tableLength ts / task ts i .period .0))),
+      v .full i (K % (tableLength ts / task ts i .period .0)) x l (mod-lt K (windows .some-jobs)),
+    )
 
     module _ (t j : ℕ) (e : shownAs m ts t j (f (cellAt t j)) ≡ i) where
       -- a shown task stands there

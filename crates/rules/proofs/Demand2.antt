@@ -11,6 +11,7 @@ use Rattle.laws.proofs.SumLaws.{lt-or-ge}
 use Rattle.tasks.specs.declared.Task.{Task}
 use Rattle.tasks.specs.Refusal.{IsSound}
 use Rattle.tasks.specs.Instance.{Instance, ownInstance, Regular}
+use Rattle.tasks.proofs.SoundLaws.{own-regular}
 use Rattle.table.specs.Table.{cells, Table}
 use Rattle.rules.specs.Walk.{Result, found, none, tries, ended, stopped, limited}
 use Rattle.rules.specs.Rules.{values, rank, plain}
@@ -21,7 +22,7 @@ use Rattle.rules.proofs.Skip.{quicker-right}
 use Rattle.rules.proofs.Plain.{clean-table, table-clean, plain-right}
 use Rattle.rules.proofs.Quick.{quick-same}
 use Rattle.rules.proofs.Only.{first-one}
-use Rattle.rules.proofs.Told.{over-take, over-drop, zeros-take, zeros-drop, search-told, own-regular}
+use Rattle.rules.proofs.Told.{over-take, over-drop, zeros-take, zeros-drop, search-told}
 
 -- ---- statements
 -- the walks of an instance

@@ -11,6 +11,7 @@ use Rattle.laws.proofs.SumLaws.{lt-or-ge}
 use Rattle.tasks.specs.declared.Task.{Task}
 use Rattle.tasks.specs.Refusal.{IsSound}
 use Rattle.tasks.specs.Instance.{Instance, ownInstance, Regular}
+use Rattle.tasks.proofs.SoundLaws.{own-regular}
 use Rattle.table.specs.Table.{cells}
 use Rattle.rules.specs.Walk.{Result, tries, limited}
 use Rattle.rules.specs.Right.{Quicker}
@@ -20,7 +21,6 @@ use Rattle.rules.specs.Search.{ruleOf, walked, Searched, search}
 use Rattle.rules.proofs.Limit.{bwalk-limited}
 use Rattle.rules.proofs.Quick.{quick-same}
 use Rattle.rules.proofs.Only.{first-one}
-use Rattle.rules.proofs.Told.{own-regular}
 use Rattle.rules.proofs.Demand2.{Searches, searches}
 
 -- ---- statements

@@ -1,28 +1,25 @@
 -- The plain walk's rule lets pass the valid tables, and no others.
 -- Assumes nothing.
-use Prim.Native.Nat.{ℕ, zero, suc, _+_, _*_, _≤_, _<_, zero-le}
+use Prim.Native.Nat.{ℕ, zero, suc, _*_, _≤_, _<_}
 use native.Mathlib.Nat.{zero-add, mul-le-mul-right}
 use native.Mathlib.Decide.{ℕ-discrete, decLt}
 use native.Mathlib.Omega.{arith}
-use mathlib.Core.Path.{_≡_, refl, ap, sym, _∙_}
-use mathlib.Core.Logic.{_≢_, inl, inr, ⊎-elim}
+use mathlib.Core.Path.{_≡_, refl, ap, sym}
+use mathlib.Core.Logic.{_≢_, inl, inr}
 use mathlib.Core.List.{List, []}
 use lib.Dec.{T, eqb, leb→le, le→leb, ltb→lt, lt→ltb, eqb→eq}
 use borrow.Author.Tests.{eq-eqb}
 use lib.ListN.{length, take}
 use lib.Seq.{length-take-le, getD-take}
-use Rattle.laws.specs.Sum.{sum}
 use Rattle.laws.specs.Tests.{Holds}
 use Rattle.laws.specs.Lists.{nth}
 use Rattle.laws.specs.Order.{Rising}
-use Rattle.laws.proofs.SumLaws.{sum-mono, lt-or-ge}
 use Rattle.laws.proofs.TestLaws.{every-holds, holds-every, all-at, at-all, all-same, imp-use, imp-make}
 use Rattle.laws.proofs.OrderLaws.{in-upTo, upTo-rising}
 use Rattle.tasks.specs.Instance.{Instance, jobEnd, Regular}
-use Rattle.table.specs.Table.{cells, slotOf, coreOf, share, done, workLeft, Valid, Table}
-use Rattle.table.proofs.JobLaws.{slot-job, end-there}
-use Rattle.table.proofs.ShareLaws.{share-own, share-job, share-some}
-use Rattle.table.proofs.TableLaws.{slot-there, done-same, free-same, make-free, free-apart, done-end}
+use Rattle.table.specs.Table.{cells, slotOf, coreOf, done, workLeft, Valid, Table}
+use Rattle.table.proofs.JobLaws.{end-there}
+use Rattle.table.proofs.TableLaws.{done-same, free-same, make-free, free-apart, done-end}
 use Rattle.rules.specs.Rules.{tests, permitted, settled, allSettled, plain, values, rank}
 use Rattle.rules.specs.Right.{Clean, Passes, Right}
 use Rattle.rules.specs.Search.{walked}
@@ -66,36 +63,16 @@ module _ (P : Instance) (c : ℕ) (f : ℕ → ℕ) where
       imp-make (eqb (suc (jobEnd P (suc i) k) * P .cores) c) (eqb (workLeft P c f (suc i) k) 0)
       (λ s. rw (eq-eqb (workLeft P c f (suc i) k) 0 (h (suc i) k (eqb→eq (suc (jobEnd P (suc i) k) * P .cores) c s) (omega arith) l j)) tt)))
 
--- a task that is permitted where its job has so much done leaves the job within its work
-pub permitted-within : (P : Instance) (c : ℕ) (f : ℕ → ℕ) (v : ℕ) → Holds (tests P c f v)
-    → done P c f v (P .job v (slotOf P c)) + P .rate v (coreOf P c) ≤ P .work v
+-- where a task is permitted its job is not complete
+pub permitted-needed : (P : Instance) (c : ℕ) (f : ℕ → ℕ) (v : ℕ) → Holds (tests P c f v) → done P c f v (P .job v (slotOf P c)) < P .work v
 unfolding tests
-permitted-within P c f v h = omega (
-  arith,
-  ltb→lt 0 (P .rate v (coreOf P c)) (h .1 .1 .0),
-  leb→le (P .rate v (coreOf P c)) (workLeft P c f v (P .job v (slotOf P c))) (h .1 .1 .1 .1 .0),
-)
+permitted-needed P c f v h = omega (arith, ltb→lt 0 (workLeft P c f v (P .job v (slotOf P c))) (h .1 .1 .1 .1 .0))
 
 module _ (P : Instance) (regular : Regular P) (f : ℕ → ℕ) where
   module _ (w : Walked P f) where
     -- a task that stands in a cell met its tests there
     stands-holds : (c : ℕ) → c < cells P → f c ≢ 0 → Holds (tests P c f (f c))
     stands-holds c l x = permitted-holds P c f (f c) x (w .tried c l)
-
-    -- no job is ever given more than its work
-    never-over : (i k : ℕ) → i ≢ 0 → (c : ℕ) → c ≤ cells P → done P c f i k ≤ P .work i
-    unfolding done sum
-    never-over i k x zero l = zero-le
-    never-over i k x (suc c) l = ⊎-elim
-        (λ some.
-        let o = share-some P i k c (f c) some in
-        omega (
-          arith,
-          rw (o .0, slot-job P i k (slotOf P c) (o .1) .1) at (permitted-within P c f (f c) (stands-holds c l (omega arith))),
-          ap (share P i k c) (o .0) ∙ share-job P i k c (o .1),
-        ))
-        (λ none. omega (arith, never-over i k x c (omega arith)))
-        (lt-or-ge 0 (share P i k c (f c)))
 
     -- what passes is a valid table
     pub walked-valid : Valid P f
@@ -106,6 +83,7 @@ module _ (P : Instance) (regular : Regular P) (f : ℕ → ℕ) where
       rated = λ c l x. ltb→lt 0 (P .rate (f c) (coreOf P c)) (stands-holds c l x .1 .1 .0);
       once = once;
       full = full;
+      needed = λ c l x. permitted-needed P c f (f c) (stands-holds c l x);
     }
       where
         known : (c : ℕ) → c < cells P → f c ≤ P .tasks
@@ -120,24 +98,13 @@ module _ (P : Instance) (regular : Regular P) (f : ℕ → ℕ) where
           ]
         ]
 
-        full : (i k : ℕ) → i ≢ 0 → i ≤ P .tasks → k < P .jobs i → done P (cells P) f i k ≡ P .work i
+        full : (i k : ℕ) → i ≢ 0 → i ≤ P .tasks → k < P .jobs i → P .work i ≤ done P (cells P) f i k
         full i k x l j = omega (
           arith,
-          never-over i k x (cells P) (omega arith),
           done-end P regular f i k,
           all-settled-job P (suc (jobEnd P i k) * P .cores) f
               (w .goes (suc (jobEnd P i k) * P .cores) (mul-le-mul-right (P .cores) (end-there P i regular k))) i k refl x l j,
         )
-
-  -- in a valid table a cell's task has work left for the cell
-  room : Valid P f → (c : ℕ) → c < cells P → f c ≢ 0 → done P c f (f c) (P .job (f c) (slotOf P c)) + P .rate (f c) (coreOf P c) ≤ P .work (f c)
-  unfolding done sum
-  room v c l x = omega (
-    arith,
-    sum-mono (suc c) (cells P) (λ d. share P (f c) (P .job (f c) (slotOf P c)) d (f d)) l,
-    v .full (f c) (P .job (f c) (slotOf P c)) x (v .known c l) (regular .job-there (f c) (slotOf P c) x (v .known c l) (slot-there P (regular .some-core) c l)),
-    share-own P (f c) c (v .open-there c l x),
-  )
 
   -- a valid table passes
   pub valid-walked : Valid P f → Walked P f
@@ -152,7 +119,7 @@ module _ (P : Instance) (regular : Regular P) (f : ℕ → ℕ) where
           lt→ltb 0 (P .rate (f c) (coreOf P c)) (v .rated c l x),
           (
             make-free P c f (f c) (regular .some-core) (λ d i s e. x (v .once c d l (omega arith) (omega arith) (sym s) (sym e))),
-            (le→leb (P .rate (f c) (coreOf P c)) (workLeft P c f (f c) (P .job (f c) (slotOf P c))) (omega (arith, room v c l x)), tt),
+            (lt→ltb 0 (workLeft P c f (f c) (P .job (f c) (slotOf P c))) (omega (arith, v .needed c l x)), tt),
           ),
         ),
       ),

@@ -1,7 +1,7 @@
 -- The quick walk: rules A and B hide no first table, since an exchange would make a table that comes before it. So its verdict and table are the plain walk's, at no more tries.
 -- Assumes nothing.
-use Prim.Native.Nat.{ℕ, zero, suc, _-_, _/_, _≤_, _<_}
-use native.Mathlib.Nat.{le-refl, le-div-iff-mul-le, div-mul-le-self, mod-lt}
+use Prim.Native.Nat.{ℕ, zero, suc, _-_, _≤_, _<_}
+use native.Mathlib.Nat.{le-refl, mod-lt}
 use native.Mathlib.Decide.{decLt, decLe}
 use native.Mathlib.Omega.{arith}
 use mathlib.Core.Path.{_≡_, refl, ap, sym, _∙_}
@@ -21,14 +21,14 @@ use Rattle.tasks.specs.Instance.{Instance, Regular}
 use Rattle.table.specs.Table.{cells, slotOf, coreOf, beside, share, done, Valid, Table}
 use Rattle.table.proofs.JobLaws.{slot-job}
 use Rattle.table.proofs.ShareLaws.{share-own, share-some}
-use Rattle.table.proofs.TableLaws.{slot-there, beside-slot, beside-core, beside-before, free-apart, valid-same}
+use Rattle.table.proofs.TableLaws.{slot-there, slot-le, beside-slot, beside-core, beside-before, free-apart, valid-same}
 use Rattle.table.proofs.SwapLaws.{swapped, Moves, Alone, swapped-a, swapped-other, twins-valid, move-valid}
 use Rattle.rules.specs.Rules.{tests, permitted, plain, values, rank, evenRates, twin, idleTried, ruleA, ruleB, quickly, quick}
 use Rattle.rules.specs.Right.{Clean, Passes, First, Stricter, Quicker}
 use Rattle.rules.specs.Search.{walked}
 use Rattle.rules.proofs.Cells.{clean-passes, passes-clean}
 use Rattle.rules.proofs.Skip.{skip}
-use Rattle.rules.proofs.Plain.{permitted-holds, permitted-within, permitted-same, valid-walked, clean-table, table-clean, values-rising}
+use Rattle.rules.proofs.Plain.{permitted-holds, permitted-needed, permitted-same, valid-walked, clean-table, table-clean, values-rising}
 
 -- no valid table comes before f: none has f's cells before a and a value of lower rank in cell a
 Least : Instance → (ℕ → ℕ) → Type 0
@@ -58,10 +58,6 @@ even-rates P i t a b la lb ra rb = eqb→eq (P .rate i a) (P .rate i b)
     (imp-use (ltb 0 (P .rate i b)) (eqb (P .rate i a) (P .rate i b))
     (imp-use (ltb 0 (P .rate i a)) _ (all-at (P .cores) _ (all-at (P .cores) _ t a la) b lb) (lt→ltb 0 (P .rate i a) ra)) (lt→ltb 0 (P .rate i b) rb))
 
--- division keeps the order
-div-le : {m : ℕ} → 0 < m → (a b : ℕ) → a ≤ b → a / m ≤ b / m
-div-le {m} pos a b l = le-div-iff-mul-le {x = a / m} {y = b} pos .1 (omega (arith, div-mul-le-self a m))
-
 module _ (P : Instance) (regular : Regular P) (f : ℕ → ℕ) (v : Valid P f) (least : Least P f) (c : ℕ) (l : c < cells P) where
   -- the first table has twins in order: exchanged, they make a table that comes before it
   twins-ordered : (d : ℕ) → d < c → slotOf P d ≡ slotOf P c → T (twin P (coreOf P d) (coreOf P c)) → rank P (f d) ≤ rank P (f c)
@@ -69,7 +65,7 @@ module _ (P : Instance) (regular : Regular P) (f : ℕ → ℕ) (v : Valid P f) 
   twins-ordered d i s t = elim (decLe (rank P (f d)) (rank P (f c))) [
     | yes h ↦ h
     | no x ↦ absurd (least (swapped d c f) d
-        (twins-valid P f d c (omega arith) l (omega arith) v s (twin-rates P (coreOf P d) (coreOf P c) t)) (omega arith)
+        (twins-valid P f d c i l v (regular .some-core) s (twin-rates P (coreOf P d) (coreOf P c) t)) (omega arith)
         (λ e j. swapped-other d c f e (omega arith) (omega arith)) (rw swapped-a (omega arith)))
   ]
 
@@ -87,8 +83,7 @@ module _ (P : Instance) (regular : Regular P) (f : ℕ → ℕ) (v : Valid P f) 
     later-cell = sum-more (cells P - c) c (cells P) (λ d. share P i (P .job i (slotOf P c)) d (f d)) (omega arith) (omega (
       arith,
       v .full i (P .job i (slotOf P c)) x n (regular .job-there i (slotOf P c) x n (slot-there P (regular .some-core) c l)),
-      ltb→lt 0 (P .rate i (coreOf P c)) (h .1 .1 .0),
-      permitted-within P c f i h,
+      permitted-needed P c f i h,
     ))
 
     module _ (b : ℕ) (cb : c ≤ b) (lb : b < cells P) (fb : f b ≡ i) (jb : P .job i (slotOf P b) ≡ P .job i (slotOf P c))
@@ -104,26 +99,34 @@ module _ (P : Instance) (regular : Regular P) (f : ℕ → ℕ) (v : Valid P f) 
             (rw fb at (v .rated b lb (omega arith))) (ltb→lt 0 (P .rate i (coreOf P c)) (h .1 .1 .0));
       })
 
-      -- it stands in no other cell of the idle cell's slot
+      -- it stands in no cell between the two for that job
+      later-next : (d : ℕ) → c ≤ d → d < b → f d ≡ i → P .job i (slotOf P d) ≢ P .job i (slotOf P c)
+      later-next d m w q j = omega (arith, before d m w, own, rw q at (v .rated d (omega arith) (omega arith)))
+        where
+          own : share P i (P .job i (slotOf P c)) d (f d) ≡ P .rate i (coreOf P d)
+          own = rw (← j, q) (share-own P i d (rw q at (v .open-there d (omega arith) (omega arith))))
+
+      -- and in no other cell of the idle cell's slot
       later-alone : Alone P f c b
       unfolding tests
       later-alone d ld dc db s q = elim (decLt d c) [
         | yes m ↦ absurd (free-apart P c f i (h .1 .1 .1 .0) d m s (q ∙ fb))
         | no y ↦ elim (decLt d b) [
-          | yes m ↦ absurd (omega (arith, before d (omega arith) m, own, rw (q ∙ fb) at (v .rated d ld (omega arith))))
+          | yes m ↦ absurd (later-next d (omega arith) m (q ∙ fb) (ap (P .job i) s))
           | no w ↦ v .once b d lb ld (omega arith)
-              (omega (arith, div-le (regular .some-core) c b cb, div-le (regular .some-core) b d (omega arith))) (sym q)
+              (omega (arith, slot-le P (regular .some-core) c b cb, slot-le P (regular .some-core) b d (omega arith))) (sym q)
         ]
       ]
-        where
-          own : share P i (P .job i (slotOf P c)) d (f d) ≡ P .rate i (coreOf P d)
-          own = rw (← s, q ∙ fb) (share-own P i d (rw (← s) at (h .1 .0)))
 
       -- moved there it makes a table that comes before
       later-before : ⊥
       unfolding Least
-      later-before = least (swapped c b f) c (move-valid P f c b l lb (λ q. x (sym fb ∙ ap f (sym q) ∙ z)) v z later-moves later-alone) l
+      later-before = least (swapped c b f) c
+          (move-valid P f c b after lb v z later-moves later-alone (λ d m w _ q. rw (q ∙ fb) (later-next d (omega arith) w (q ∙ fb)))) l
           (λ d j. swapped-other c b f d (omega arith) (omega arith)) (rw (swapped-a, fb, z) (rank-zero (P .tasks) i x n))
+        where
+          after : c < b
+          after = let y : c ≢ b = λ q. x (sym fb ∙ ap f (sym q) ∙ z) in omega arith
 
     -- so a first table has no such cell
     moved : ⊥

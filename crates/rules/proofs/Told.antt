@@ -10,8 +10,7 @@ use borrow.Author.Tests.{le-leb}
 use Rattle.laws.specs.Lists.{over}
 use Rattle.tasks.specs.declared.Task.{Task}
 use Rattle.tasks.specs.Refusal.{unless, orNext, refusal, IsSound}
-use Rattle.tasks.specs.Instance.{ownInstance, Regular}
-use Rattle.tasks.proofs.SoundLaws.{sound-list, length-whole, instance-regular}
+use Rattle.tasks.specs.Instance.{ownInstance}
 use Rattle.table.specs.Table.{cells}
 use Rattle.rules.specs.Walk.{limited}
 use Rattle.rules.specs.Search.{Searched, walked, searchTold, searchToldUnless, searchRefusal, search}
@@ -49,7 +48,3 @@ refused-told m ts e b buffer k h x = rw h (go k _ x)
     go : (k : ℕ) (s : Searched) → k ≢ 0 → searchToldUnless k buffer s ≡ record { verdict = k; tries = 0; buffer = buffer }
     go zero s x = absurd (x refl)
     go (suc k) s x = refl
-
--- the instance of a sound list is regular
-pub own-regular : (m : ℕ) (ts : List Task) → IsSound m ts → Regular (ownInstance m ts)
-own-regular m ts sound = let s = sound-list m ts sound in instance-regular s (length-whole s)

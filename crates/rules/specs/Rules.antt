@@ -20,11 +20,11 @@ values P = upTo (P .tasks) 1
 abbrev pub rank : Instance → ℕ → ℕ
 rank P = rankOf (P .tasks)
 
--- 4.4: a task is permitted in cell c if it is open, has a positive rate there, does not stand on an earlier core of this slot, and the rate is at most the work left
+-- 4.4: a task is permitted in cell c if it is open, has a positive rate there, does not stand on an earlier core of this slot, and its job has work left
 unfoldable pub tests : Instance → ℕ → (ℕ → ℕ) → ℕ → List Bool
 tests P c f v =
     leb v (P .tasks) ∷ P .opens v (slotOf P c) ∷ ltb 0 (P .rate v (coreOf P c)) ∷ free P c f v
-    ∷ leb (P .rate v (coreOf P c)) (workLeft P c f v (P .job v (slotOf P c))) ∷ []
+    ∷ ltb 0 (workLeft P c f v (P .job v (slotOf P c))) ∷ []
 
 -- 4.4: idle is always permitted
 unfoldable pub permitted : Instance → ℕ → (ℕ → ℕ) → ℕ → Bool

@@ -4,15 +4,16 @@ use Prim.Native.Nat.{ℕ, _≤_, _<_}
 use native.Mathlib.Decide.{ℕ-discrete}
 use native.Mathlib.Omega.{arith}
 use mathlib.Core.Path.{_≡_, refl, ap, sym, _∙_}
-use mathlib.Core.Logic.{_≢_}
+use mathlib.Core.Logic.{_≢_, ⊎-elim}
 use mathlib.Core.Bool.{cond}
 use lib.Dec.{T, eqb}
 use borrow.Author.Tests.{eq-eqb, ne-eqb}
-use Rattle.laws.proofs.SumLaws.{sum-change-two}
+use Rattle.laws.proofs.SumLaws.{sum-stays, lt-or-ge, sum-change, sum-change-two}
 use Rattle.tasks.specs.Instance.{Instance}
 use Rattle.table.specs.Table.{cells, slotOf, coreOf, share, done, Valid}
 use Rattle.table.proofs.JobLaws.{job-slot, slot-job}
 use Rattle.table.proofs.ShareLaws.{share-job, share-other, share-none}
+use Rattle.table.proofs.TableLaws.{slot-le, done-more, done-same}
 
 -- the cells a and b exchanged
 unfoldable pub swapped : ℕ → ℕ → (ℕ → ℕ) → ℕ → ℕ
@@ -28,6 +29,14 @@ pub record Moves (P : Instance) (z a b : ℕ) : Type 0 where
 -- the value of cell b stands in the slot of cell a in no cell but a and b
 abbrev pub Alone : Instance → (ℕ → ℕ) → ℕ → ℕ → Type 0
 Alone P f a b = (d : ℕ) → d < cells P → d ≢ a → d ≢ b → slotOf P d ≡ slotOf P a → f d ≡ f b → f b ≡ 0
+
+-- the task of cell a stands in no later cell up to b
+abbrev pub Last : (ℕ → ℕ) → ℕ → ℕ → Type 0
+Last f a b = f a ≢ 0 → (d : ℕ) → a < d → d ≤ b → f d ≢ f a
+
+-- between the cells a and b the task of cell b stands in no cell for the job that it has in the slot of cell a
+abbrev pub Next : Instance → (ℕ → ℕ) → ℕ → ℕ → Type 0
+Next P f a b = (d : ℕ) → a < d → d < b → f d ≢ 0 → f d ≡ f b → P .job (f d) (slotOf P d) ≢ P .job (f d) (slotOf P a)
 
 module _ (a b : ℕ) (f : ℕ → ℕ) where
   -- what stands in cell a after the exchange
@@ -69,28 +78,94 @@ module _ (P : Instance) where
     | no y ↦ share-other P i k a z y ∙ sym (share-other P i k b z y)
   ]
 
-  module _ (f : ℕ → ℕ) (a b : ℕ) (la : a < cells P) (lb : b < cells P) (ab : a ≢ b) (v : Valid P f) where
-    -- two cells exchanged, whose values move: each job has the work that it had
-    swapped-done : (f a ≢ 0 → Moves P (f a) a b) → (f b ≢ 0 → Moves P (f b) b a) → (i k : ℕ) → i ≢ 0
-        → done P (cells P) (swapped a b f) i k ≡ done P (cells P) f i k
+  module _ (f : ℕ → ℕ) (a b : ℕ) (before : a < b) (lb : b < cells P) (v : Valid P f) where
+    -- cell a is one of the table's, and not cell b
+    la : a < cells P
+    la = omega arith
+
+    ab : a ≢ b
+    ab e = omega arith
+
+    -- up to cell a the exchange changes nothing
+    swapped-before : (i k c : ℕ) → c ≤ a → done P c (swapped a b f) i k ≡ done P c f i k
+    swapped-before i k c l = done-same P c (swapped a b f) f (λ d m. swapped-other a b f d (λ e. omega arith) (λ e. omega arith)) i k
+
+    -- from there up to cell b it adds nothing to a job for which the value of cell b does nothing in cell a
+    swapped-between : (i k c : ℕ) → a < c → c ≤ b → share P i k a (f b) ≡ 0 → done P c (swapped a b f) i k ≤ done P c f i k
     unfolding done
-    swapped-done ma mb i k x = omega (
+    swapped-between i k c l m z = omega (
       arith,
-      sum-change-two (cells P) (λ c. share P i k c (f c)) (λ c. share P i k c (swapped a b f c)) a b la lb ab (λ c _ y z. rw (swapped-other a b f c y z)),
-      ap (share P i k a) (swapped-a a b f) ∙ sym (share-moves i k (f b) b a x (v .open-there b lb) mb),
-      ap (share P i k b) (swapped-b a b f ab) ∙ sym (share-moves i k (f a) a b x (v .open-there a la) ma),
+      sum-change c (λ d. share P i k d (f d)) (λ d. share P i k d (swapped a b f d)) a l (λ d n y. rw (swapped-other a b f d y (λ e. omega arith))),
+      ap (share P i k a) (swapped-a a b f) ∙ z,
     )
 
-    -- two cells exchanged, whose values move and stand nowhere else in the other's slot
-    pub swap-valid : (f a ≢ 0 → Moves P (f a) a b) → (f b ≢ 0 → Moves P (f b) b a) → Alone P f a b → Alone P f b a → Valid P (swapped a b f)
-    swap-valid ma mb oa ob = record {
+    -- two cells exchanged, whose values move
+    module _ (ma : f a ≢ 0 → Moves P (f a) a b) (mb : f b ≢ 0 → Moves P (f b) b a) where
+      -- behind cell b each job has the work that it had
+      swapped-after : (i k c : ℕ) → i ≢ 0 → b < c → done P c (swapped a b f) i k ≡ done P c f i k
+      unfolding done
+      swapped-after i k c x l = omega (
+        arith,
+        sum-change-two c (λ d. share P i k d (f d)) (λ d. share P i k d (swapped a b f d)) a b (omega arith) l ab (λ d _ y z. rw (swapped-other a b f d y z)),
+        ap (share P i k a) (swapped-a a b f) ∙ sym (share-moves i k (f b) b a x (v .open-there b lb) mb),
+        ap (share P i k b) (swapped-b a b f ab) ∙ sym (share-moves i k (f a) a b x (v .open-there a la) ma),
+      )
+
+      -- the job of cell b is not complete at cell a, which comes before
+      needed-a : f b ≢ 0 → done P a (swapped a b f) (f b) (P .job (f b) (slotOf P a)) < P .work (f b)
+      needed-a n = omega (
+        arith,
+        swapped-before (f b) (P .job (f b) (slotOf P a)) a (omega arith),
+        done-more P a b f (f b) (P .job (f b) (slotOf P a)) (omega arith),
+        rw (mb n .same-job) at (v .needed b lb n),
+      )
+
+      -- the job of cell a is not complete at cell b, as none of its cells lies between
+      needed-b : Last f a b → f a ≢ 0 → done P b (swapped a b f) (f a) (P .job (f a) (slotOf P b)) < P .work (f a)
+      unfolding done
+      needed-b last n = omega (
+        arith,
+        sum-stays a b (λ d. share P (f a) (P .job (f a) (slotOf P b)) d (swapped a b f d)) (omega arith) (λ d l m. share-other P (f a) _ d _ (other d l m)),
+        swapped-before (f a) (P .job (f a) (slotOf P b)) a (omega arith),
+        rw (ma n .same-job) at (v .needed a la n),
+      )
+        where
+          other : (d : ℕ) → a ≤ d → d < b → swapped a b f d ≢ f a
+          other d l m = elim (ℕ-discrete d a) [
+            | yes e ↦ rw (e, swapped-a) (last n b before (omega arith))
+            | no x ↦ rw (swapped-other a b f d x (λ e. omega arith)) (last n d (omega arith) (omega arith))
+          ]
+
+      -- at any other cell its job has done no more than before
+      needed-other : Next P f a b → (c : ℕ) → c ≢ a → c ≢ b → c < cells P → f c ≢ 0
+          → done P c (swapped a b f) (f c) (P .job (f c) (slotOf P c)) < P .work (f c)
+      needed-other next c x y l n =
+          let k = P .job (f c) (slotOf P c) in
+          ⊎-elim
+          (λ p. ⊎-elim
+          (λ q. omega (arith, swapped-after (f c) k c n q, v .needed c l n))
+          (λ q. omega (
+            arith,
+            swapped-between (f c) k c p q (share-none P (f c) k a (f b) (λ e t. next c p (omega arith) n (sym e) (sym (slot-job P (f c) k (slotOf P a) t .1)))),
+            v .needed c l n,
+          ))
+          (lt-or-ge b c))
+          (λ p. omega (arith, swapped-before (f c) k c p, v .needed c l n))
+          (lt-or-ge a c)
+
+    -- two cells exchanged, whose values move and stand nowhere else in the other's slot, nor between the two for the same job
+    pub swap-valid : (f a ≢ 0 → Moves P (f a) a b) → (f b ≢ 0 → Moves P (f b) b a) → Alone P f a b → Alone P f b a → Last f a b → Next P f a b
+        → Valid P (swapped a b f)
+    swap-valid ma mb oa ob last next = record {
       known = swapped-all a b f (λ c z. c < cells P → z ≤ P .tasks) ab (λ l. v .known b lb) (λ l. v .known a la) (λ c x y. v .known c);
       open-there = swapped-all a b f (λ c z. c < cells P → z ≢ 0 → T (P .opens z (slotOf P c))) ab
           (λ l n. mb n .open-there) (λ l n. ma n .open-there) (λ c x y. v .open-there c);
       rated = swapped-all a b f (λ c z. c < cells P → z ≢ 0 → 0 < P .rate z (coreOf P c)) ab
           (λ l n. mb n .rated) (λ l n. ma n .rated) (λ c x y. v .rated c);
       once = once;
-      full = λ i k x l j. rw (swapped-done ma mb i k x) (v .full i k x l j);
+      full = λ i k x l j. rw (swapped-after ma mb i k (cells P) x lb) (v .full i k x l j);
+      needed = swapped-all a b f (λ c z. c < cells P → z ≢ 0 → done P c (swapped a b f) z (P .job z (slotOf P c)) < P .work z) ab
+          (λ l. needed-a ma mb) (λ l. needed-b ma mb last) (needed-other ma mb next);
     }
       where
         -- cell d with the value w against cell c with the value z
@@ -107,9 +182,9 @@ module _ (P : Instance) where
             (λ lc _ n s e. e ∙ oa c lc x y s e) (λ lc _ n s e. e ∙ ob c lc y x s e) (λ d _ _ lc ld n s e. v .once c d lc ld n s e))
 
     -- twins: two cells of one slot whose cores have equal rates
-    pub twins-valid : slotOf P a ≡ slotOf P b → ((i : ℕ) → i ≢ 0 → i ≤ P .tasks → P .rate i (coreOf P a) ≡ P .rate i (coreOf P b))
+    pub twins-valid : 0 < P .cores → slotOf P a ≡ slotOf P b → ((i : ℕ) → i ≢ 0 → i ≤ P .tasks → P .rate i (coreOf P a) ≡ P .rate i (coreOf P b))
         → Valid P (swapped a b f)
-    twins-valid s r = swap-valid
+    twins-valid some-core s r = swap-valid
         (λ n. record {
           open-there = rw s at (v .open-there a la n);
           rated = rw (r (f a) n (v .known a la)) at (v .rated a la n);
@@ -124,7 +199,12 @@ module _ (P : Instance) where
         })
         (λ d l x y t e. sym e ∙ v .once d b l lb y (t ∙ s) e)
         (λ d l x y t e. sym e ∙ v .once d a l la y (t ∙ sym s) e)
+        (λ n d l m e. n (v .once a d la (omega arith) (λ q. omega arith) (sym (in-slot d l m)) (sym e)))
+        (λ d l m n e _. n (v .once d b (omega arith) lb (λ q. omega arith) (in-slot d l (omega arith) ∙ s) e))
+      where
+        in-slot : (d : ℕ) → a < d → d ≤ b → slotOf P d ≡ slotOf P a
+        in-slot d l m = omega (arith, slot-le P some-core a d (omega arith), slot-le P some-core d b m, s)
 
-    -- an idle cell a, and a cell b of a job that may stand in cell a at the same rate
-    pub move-valid : f a ≡ 0 → Moves P (f b) b a → Alone P f a b → Valid P (swapped a b f)
-    move-valid z m o = swap-valid (λ n. absurd (n z)) (λ n. m) o (λ d l x y s e. z)
+    -- an idle cell a, and the next cell b of a job that may stand in cell a at the same rate
+    pub move-valid : f a ≡ 0 → Moves P (f b) b a → Alone P f a b → Next P f a b → Valid P (swapped a b f)
+    move-valid z m o = swap-valid (λ n. absurd (n z)) (λ n. m) o (λ d l x y s e. z) (λ n. absurd (n z))

@@ -1,7 +1,7 @@
 -- Tables by their cells: the cells beside a cell, what the cells do for the jobs, and that validity looks at the table's cells only.
 -- Assumes nothing.
 use Prim.Native.Nat.{ℕ, suc, _*_, _≤_, _<_}
-use native.Mathlib.Nat.{div-add-mod', div-lt-iff-lt-mul, le-div-iff-mul-le, mul-le-mul-right, mod-lt}
+use native.Mathlib.Nat.{div-add-mod', div-lt-iff-lt-mul, le-div-iff-mul-le, div-mul-le-self, mul-le-mul-right, mod-lt}
 use native.Mathlib.Decide.{ℕ-discrete}
 use native.Mathlib.Omega.{arith}
 use mathlib.Core.Path.{_≡_, refl, ap, sym, _∙_}
@@ -10,7 +10,7 @@ use lib.Dec.{T, eqb, eqb→eq, not-T, T-not}
 use lib.Arith.{digits-div, digits-mod}
 use borrow.Author.Tests.{eq-eqb}
 use Rattle.laws.specs.Sum.{gate, sum}
-use Rattle.laws.proofs.SumLaws.{gate-eq, gate-ne, gate-zero, sum-ext, sum-zero, sum-stays, sum-only, sum-swap, sum-const}
+use Rattle.laws.proofs.SumLaws.{gate-eq, gate-ne, gate-zero, sum-ext, sum-zero, sum-stays, sum-mono, sum-only, sum-swap, sum-le, sum-const}
 use Rattle.laws.proofs.TestLaws.{all-at, at-all, all-same}
 use Rattle.tasks.specs.Instance.{Instance, jobEnd, Regular}
 use Rattle.table.specs.Table.{cells, slotOf, coreOf, beside, share, done, free, Valid}
@@ -29,6 +29,10 @@ module _ (P : Instance) (some-core : 0 < P .cores) where
   -- on core j
   pub beside-core : (c j : ℕ) → j < coreOf P c → coreOf P (beside P c j) ≡ j
   beside-core c j l = digits-mod (slotOf P c) (omega (arith, mod-lt c some-core))
+
+-- the slots of cells come in the order of the cells
+pub slot-le : (P : Instance) → 0 < P .cores → (a b : ℕ) → a ≤ b → slotOf P a ≤ slotOf P b
+slot-le P some-core a b l = le-div-iff-mul-le {x = slotOf P a} {y = b} some-core .1 (omega (arith, div-mul-le-self a (P .cores)))
 
 -- for an earlier core it comes before cell c
 pub beside-before : (P : Instance) (c j : ℕ) → j < coreOf P c → beside P c j < c
@@ -54,6 +58,11 @@ module _ (P : Instance) (c : ℕ) (f : ℕ → ℕ) (v : ℕ) where
   unfolding free
   free-apart t d l s e = T-not (eqb (f (beside P c (coreOf P d))) v) (all-at (coreOf P c) _ t (coreOf P d) (core-before P c d l s))
       (rw (eq-eqb (f (beside P c (coreOf P d))) v (ap f (sym (beside-is P c d s)) ∙ e)) tt)
+
+-- more cells do no less
+pub done-more : (P : Instance) (c d : ℕ) (f : ℕ → ℕ) (i k : ℕ) → c ≤ d → done P c f i k ≤ done P d f i k
+unfolding done
+done-more P c d f i k = sum-mono c d (λ e. share P i k e (f e))
 
 -- what is done and which values are free depend on the earlier cells only
 module _ (P : Instance) (c : ℕ) (f g : ℕ → ℕ) (same : (d : ℕ) → d < c → f d ≡ g d) where
@@ -85,6 +94,7 @@ valid-same P f g same v = record {
   rated = λ c l. rw (same c l) at (v .rated c l);
   once = λ c d l m. rw (same c l, same d m) at (v .once c d l m);
   full = λ i k x l j. rw (done-same P (cells P) f g same i k) at (v .full i k x l j);
+  needed = λ c l. rw (same c l, done-same P c f g (λ d m. same d (omega arith))) at (v .needed c l);
 }
 
 module _ (P : Instance) (regular : Regular P) (f : ℕ → ℕ) (v : Valid P f) (i : ℕ) (x : i ≢ 0) (l : i ≤ P .tasks) where
@@ -100,11 +110,16 @@ module _ (P : Instance) (regular : Regular P) (f : ℕ → ℕ) (v : Valid P f) 
           (λ k j ne. share-none P i k c i (λ _ t. ne (sym (slot-job P i k (slotOf P c) t .1))))
           ∙ share-own P i c o
 
-  -- all of a task's cells together do C units for each of its jobs
-  pub task-total : sum (cells P) (λ c. gate (eqb (f c) i) (P .rate i (coreOf P c))) ≡ P .jobs i * P .work i
+  -- all of a task's cells together do at least C units for each of its jobs
+  pub task-total : P .jobs i * P .work i ≤ sum (cells P) (λ c. gate (eqb (f c) i) (P .rate i (coreOf P c)))
   unfolding done
-  task-total = sym (sum-ext (cells P) _ _ cell-total) ∙ sum-swap (cells P) (P .jobs i) (λ c k. share P i k c (f c))
-      ∙ sum-ext (P .jobs i) _ (λ k. P .work i) (λ k j. v .full i k x l j) ∙ sum-const (P .jobs i) (P .work i)
+  task-total = omega (
+    arith,
+    sum-ext (cells P) _ _ cell-total,
+    sum-swap (cells P) (P .jobs i) (λ c k. share P i k c (f c)),
+    sum-le (P .jobs i) (λ k. P .work i) (λ k. done P (cells P) f i k) (λ k j. v .full i k x l j),
+    sum-const (P .jobs i) (P .work i),
+  )
 
 -- a job of a task whose rates are all 0 gets no work, so no table serves it
 pub serves-none : (P : Instance) → 0 < P .cores → (i k : ℕ) → i ≢ 0 → i ≤ P .tasks → k < P .jobs i → 0 < P .work i → ((j : ℕ) → j < P .cores → P .rate i j ≡ 0)

@@ -5,11 +5,12 @@ use mathlib.Core.Bool.{Bool, true, false}
 use mathlib.Core.List.{List}
 use lib.Dec.{leb, ltb}
 use lib.ListN.{length}
+use Rattle.laws.specs.Tests.{all, imp}
 use Rattle.laws.specs.Lists.{nth, seek, firstOf}
 use Rattle.tasks.specs.declared.Task.{Task}
 use Rattle.tasks.specs.Refusal.{unless, orNext, refusal}
 use Rattle.tasks.specs.Instance.{Instance, ownInstance}
-use Rattle.table.specs.Table.{cells, slotOf, coreOf, done, free}
+use Rattle.table.specs.Table.{cells, slotOf, coreOf, ofJob, done, free}
 
 -- 6.3: the fault of a task of the list, by its tests in a cell: 2 task closed, 3 rate 0, 4 already in this slot; 0 none
 abbrev pub knownKind : Bool → Bool → Bool → ℕ
@@ -27,13 +28,17 @@ cellKind P f c = idleOr (f c)
     idleOr zero = 0
     idleOr (suc v) = kindOf P c f (suc v)
 
--- 6.4: the fault of a job of work C that has done d: 5 too little work, 6 too much; 0 none
-unfoldable pub workKind : ℕ → ℕ → ℕ
-workKind C d = unless (leb C d) 5 (unless (leb d C) 6 0)
+-- 6.4: of the first c cells each cell of the job is needed: none stands where the job's earlier cells have already done C
+unfoldable pub allNeeded : Instance → ℕ → (ℕ → ℕ) → ℕ → ℕ → Bool
+allNeeded P c f i k = all c (λ d. imp (ofJob P i k d (f d)) (ltb (done P d f i k) (P .work i)))
+
+-- 6.4: the fault of a job of work C that has done d, by whether each of its cells was needed: 5 too little work, 6 a cell after the job was complete; 0 none
+unfoldable pub workKind : ℕ → ℕ → Bool → ℕ
+workKind C d needed = unless (leb C d) 5 (unless needed 6 0)
 
 -- 6.4: the fault of job k of task i
 abbrev pub jobKind : Instance → (ℕ → ℕ) → ℕ → ℕ → ℕ
-jobKind P f i k = workKind (P .work i) (done P (cells P) f i k)
+jobKind P f i k = workKind (P .work i) (done P (cells P) f i k) (allNeeded P (cells P) f i k)
 
 -- 6.2: what the checker tells: slot, core and kind, or task, job and kind; slots and jobs count from 0, cores and tasks from 1
 pub data Fault : Type 0 where

@@ -28,9 +28,13 @@ coreOf P c = c % P .cores
 abbrev pub beside : Instance → ℕ → ℕ → ℕ
 beside P c j = slotOf P c * P .cores + j
 
--- 3.6: what the value v in cell c does for job k of task i: the rate, if it is that task in one of the job's slots
+-- 3.6: the value v in cell c is of job k of task i: it is that task in one of the job's slots
+abbrev pub ofJob : Instance → ℕ → ℕ → ℕ → ℕ → Bool
+ofJob P i k c v = eqb v i && jobSlot P i k (slotOf P c)
+
+-- 3.6: what the value v in cell c does for the job: the rate, if it is of the job
 unfoldable pub share : Instance → ℕ → ℕ → ℕ → ℕ → ℕ
-share P i k c v = gate (eqb v i && jobSlot P i k (slotOf P c)) (P .rate i (coreOf P c))
+share P i k c v = gate (ofJob P i k c v) (P .rate i (coreOf P c))
 
 -- 3.6: what the first c cells do for the job
 unfoldable pub done : Instance → ℕ → (ℕ → ℕ) → ℕ → ℕ → ℕ
@@ -54,8 +58,10 @@ pub record Valid (P : Instance) (f : ℕ → ℕ) : Type 0 where
   pub rated : (c : ℕ) → c < cells P → f c ≢ 0 → 0 < P .rate (f c) (coreOf P c)
   -- 3.5: C3, a task stands at most once in a slot
   pub once : (c d : ℕ) → c < cells P → d < cells P → c ≢ d → slotOf P c ≡ slotOf P d → f c ≡ f d → f c ≡ 0
-  -- 3.6: C4, over each job's slots the rates of its cells add up to exactly C
-  pub full : (i k : ℕ) → i ≢ 0 → i ≤ P .tasks → k < P .jobs i → done P (cells P) f i k ≡ P .work i
+  -- 3.6: C4, the cells of each job do at least C units
+  pub full : (i k : ℕ) → i ≢ 0 → i ≤ P .tasks → k < P .jobs i → P .work i ≤ done P (cells P) f i k
+  -- 3.6: C4, and none of them stands where the job's earlier cells, in table order, have already done C
+  pub needed : (c : ℕ) → c < cells P → f c ≢ 0 → done P c f (f c) (P .job (f c) (slotOf P c)) < P .work (f c)
 
 -- 3.2: a list of cells that is a valid table
 pub record Table (P : Instance) (t : List ℕ) : Type 0 where

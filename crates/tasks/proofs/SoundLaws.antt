@@ -20,7 +20,7 @@ use Rattle.tasks.specs.declared.TaskList.{TaskList}
 use Rattle.tasks.specs.Task.{rate, noTask, task, taskAt, rows}
 use Rattle.tasks.specs.Refusal.{mostRate, periodAt, within, unless, orNext, ratesFit, taskRefusal, listRefusal, tableLength, refusal, IsSound}
 use Rattle.tasks.specs.Window.{Cyclic}
-use Rattle.tasks.specs.Instance.{instanceOf, Regular}
+use Rattle.tasks.specs.Instance.{instanceOf, ownInstance, Regular}
 use Rattle.tasks.proofs.WindowLaws.{both, job-lt}
 
 -- ---- lists as numbers
@@ -170,3 +170,7 @@ module _ {m : ℕ} {ts : List Task} (s : SoundList m ts) where
     some-slot = w .some-slot;
     job-there = λ i t x l k. job-lt (sound-cyclic w i x l) (task ts i .offset .0) t;
   }
+
+-- so the instance of a sound list is regular
+pub own-regular : (m : ℕ) (ts : List Task) → IsSound m ts → Regular (ownInstance m ts)
+own-regular m ts sound = let s = sound-list m ts sound in instance-regular s (length-whole s)

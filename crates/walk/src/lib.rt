@@ -64,7 +64,7 @@ fn take_back(left: &mut [u16; 16385], counter: usize, had: Work)
 // Tries each value in the cell of a place, in order: the tasks that may stand there, and then idle.
 fn cell(
     table: &mut [u8; 4096],
-    grid: &[u16; 17763],
+    grid: &[u16; 17523],
     left: &mut [u16; 16385],
     place: usize,
     mut used: u32,
@@ -118,7 +118,7 @@ fn cell(
 // After the cell of a place: the next core; after the last, where no job is starved, the next slot; after the last slot the table is found.
 fn finish_slot(
     table: &mut [u8; 4096],
-    grid: &[u16; 17763],
+    grid: &[u16; 17523],
     left: &mut [u16; 16385],
     place: usize,
     tries: u32,
@@ -142,7 +142,7 @@ fn finish_slot(
 }
 
 // The walk from the first cell.
-pub fn walk(table: &mut [u8; 4096], grid: &[u16; 17763], left: &mut [u16; 16385], tries: u32) -> u64
+pub fn walk(table: &mut [u8; 4096], grid: &[u16; 17523], left: &mut [u16; 16385], tries: u32) -> u64
     requires { ⌜ OnGrid (now grid) 0 × (0 < coresOn (now grid)) ⌝ }
     ensures { λ r. ⌜ Ran (now (grid .entry)) 0 (setsOn (now (grid .entry)) (now (left .entry)) 0) (now (table .entry)) (now (left .entry)) tries r (now (table .exit)) (now (left .exit)) ⌝ }
 {

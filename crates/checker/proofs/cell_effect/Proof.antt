@@ -45,12 +45,12 @@ job-at-requires : tie.Need-job-at-requires
 job-at-requires c κs = window-ready (c .before .before .before .before .before .before .before .before .before .before .before .pre) (c .before .before .before .before .before .before .before .before .if1 .left) (c .before .before .before .before .before .before .if2 .left) (c .before .before .before .before .before .task-at .ensures)
 
 work-in-requires : tie.Need-work-in-requires
-work-in-requires c κs = omega (arith, rate-few (c .before .before .before .before .before .before .before .before .before .before .before .before .before .pre) (c .before .before .before .before .before .before .before .before .before .before .if1 .left) (c .before .before .before .before .before .before .before .before .if2 .left) (c .before .before .before .before .before .before .before .task-at .ensures))
+work-in-requires c κs = omega (arith, rate-few (c .before .before .before .before .before .before .before .before .before .before .before .before .before .before .pre) (c .before .before .before .before .before .before .before .before .before .before .before .if1 .left) (c .before .before .before .before .before .before .before .before .before .if2 .left) (c .before .before .before .before .before .before .before .before .task-at .ensures))
 
 returns-4 : tie.Need-returns-4
 returns-4 c =
-    does-there (c .before .before .before .before .before .before .before .before .before .before .before .before .before .before .pre) (c .before .before .before .before .before .before .before .before .before .before .before .if1 .left) (c .before .before .before .before .before .before .before .before .before .if2 .left) (c .before .before .before .before .before .before .before .before .task-at .ensures)
-    (c .before .before .before .before .before .before .is-open .ensures) (c .before .before .before .before .before .free .ensures) (c .before .before .before .before .kind .ensures) (c .before .before .before .if3 .left) (c .before .before .job-at .ensures) (c .before .counter-of .ensures) (c .work-in .ensures)
+    does-there (c .before .before .before .before .before .before .before .before .before .before .before .before .before .before .before .pre) (c .before .before .before .before .before .before .before .before .before .before .before .before .if1 .left) (c .before .before .before .before .before .before .before .before .before .before .if2 .left) (c .before .before .before .before .before .before .before .before .before .task-at .ensures)
+    (c .before .before .before .before .before .before .before .is-open .ensures) (c .before .before .before .before .before .before .free .ensures) (c .before .before .before .before .before .kind .ensures) (c .before .before .before .before .if3 .left) (c .before .before .before .job-at .ensures) (c .before .counter-of .ensures) (c .work-in .ensures)
 
 pub cell-effect-spec : {M : Type 1} → statement M
 cell-effect-spec = tie.close (tie.spec

@@ -11,16 +11,16 @@ use Rattle.checker.proofs.scan_cells.Statement.{statement}
 use Rattle.checker.proofs.scan_cells.Tie as tie
 
 abbrev Inv-loop : tie.InvT-loop
-Inv-loop list len m table done₀ slots slot core₀ done core = Passed (instanceFor list m (len .0)) (nth table) (slot * m + core) done × (core ≤ m)
+Inv-loop list len m table counts₀ slots slot core₀ counts core = Passed (instanceFor list m (len .0)) (nth table) (slot * m + core) counts × (core ≤ m)
 
 abbrev μ-loop : tie.MeasureT-loop
-μ-loop list len m table done₀ slots slot core₀ done core = m - core
+μ-loop list len m table counts₀ slots slot core₀ counts core = m - core
 
 abbrev Inv-scan : tie.InvT-scan
-Inv-scan list len m table done₀ slots slot₀ done slot = Passed (instanceFor list m (len .0)) (nth table) (slot * m) done × (slot ≤ len .0)
+Inv-scan list len m table counts₀ slots slot₀ counts slot = Passed (instanceFor list m (len .0)) (nth table) (slot * m) counts × (slot ≤ len .0)
 
 abbrev μ-scan : tie.MeasureT-scan
-μ-scan list len m table done₀ slots slot₀ done slot = len .0 - slot
+μ-scan list len m table counts₀ slots slot₀ counts slot = len .0 - slot
 
 scan-holds : tie.Need-scan-holds Inv-loop μ-loop Inv-scan μ-scan
 scan-holds c = (as-far (begins (c .before .pre .1)) (omega arith), omega arith)
@@ -36,24 +36,27 @@ at c = search needs
 counter : (c : tie.After-known-told Inv-loop μ-loop Inv-scan μ-scan) → c .before .effect .given .0 .0 < 16384
 counter c = counter-at (at (c .before .before .before .before)) (c .before .before .before .before .before .loop .inv .0) (c .before .before .before .cell-effect .ensures) (c .before .effect .given .1)
 
-mul-done : tie.Need-mul-done Inv-loop μ-loop Inv-scan μ-scan
-mul-done c = omega (arith, counter c)
+mul-count-cell : tie.Need-mul-count-cell Inv-loop μ-loop Inv-scan μ-scan
+mul-count-cell c = omega (arith, counter c)
 
-element-copy-out-done : tie.Need-element-copy-out-done Inv-loop μ-loop Inv-scan μ-scan
-element-copy-out-done c = counter c
+element-copy-out-count-cell : tie.Need-element-copy-out-count-cell Inv-loop μ-loop Inv-scan μ-scan
+element-copy-out-count-cell c = counter c
 
-add-done : tie.Need-add-done Inv-loop μ-loop Inv-scan μ-scan
-add-done c = record { fits = fits-at (at (c .before .before .before .before .before .before)) (c .before .before .before .before .before .before .before .loop .inv .0) (c .before .before .before .before .before .cell-effect .ensures) (c .before .before .before .effect .given .1) }
+count-cell-requires : tie.Need-count-cell-requires Inv-loop μ-loop Inv-scan μ-scan
+count-cell-requires c κs = fits-at (at (c .before .before .before .before .before)) (c .before .before .before .before .before .before .loop .inv .0) (c .before .before .before .before .cell-effect .ensures) (c .before .before .effect .given .1)
 
-element-write-done : tie.Need-element-write-done Inv-loop μ-loop Inv-scan μ-scan
-element-write-done c = counter (c .before .before)
+mul-counts : tie.Need-mul-counts Inv-loop μ-loop Inv-scan μ-scan
+mul-counts c = omega (arith, counter (c .before .before))
+
+element-write-counts : tie.Need-element-write-counts Inv-loop μ-loop Inv-scan μ-scan
+element-write-counts c = counter (c .before .before)
 
 loop-again : tie.Need-loop-again Inv-loop μ-loop Inv-scan μ-scan
 loop-again c =
     let passed = c .before .before .before .loop .inv .0 in (
       ⊎-elim
           (λ w. rw (w .2) (rests-at (at (c .before .before)) passed (c .before .cell-effect .ensures) (w .1 .given .1)))
-          (λ w. rw (w .5) (works-at (at (c .before .before)) passed (c .before .cell-effect .ensures) (w .1 .given .1)))
+          (λ w. rw (w .5) (works-at (at (c .before .before)) passed (c .before .cell-effect .ensures) (w .1 .given .1) (w .4 .ensures)))
           (c .match .came),
       omega arith,
     )
@@ -69,6 +72,6 @@ returns-2 c = stops-at (at (c .before .before .before .before)) (c .before .befo
 
 pub scan-cells-spec : {M : Type 1} → statement M
 scan-cells-spec = tie.close (tie.spec
-    Inv-loop μ-loop Inv-scan μ-scan scan-holds loop-holds (λ c κs. search needs) (λ c. search needs) (λ c. search needs) mul-done
-    element-copy-out-done add-done element-write-done (λ c. search needs) (λ c. search needs) (λ c. search needs) (λ c. search needs)
+    Inv-loop μ-loop Inv-scan μ-scan scan-holds loop-holds (λ c κs. search needs) (λ c. search needs) (λ c. search needs) mul-count-cell
+    element-copy-out-count-cell count-cell-requires mul-counts element-write-counts (λ c. search needs) (λ c. search needs) (λ c. search needs) (λ c. search needs)
     loop-again (λ c. search needs) (λ c. search needs) scan-again returns returns-2)

@@ -11,10 +11,10 @@ use Rattle.checker.proofs.scan_jobs.Statement.{statement}
 use Rattle.checker.proofs.scan_jobs.Tie as tie
 
 abbrev Inv-loop : tie.InvT-loop
-Inv-loop list len done n place₀ place = (place ≤ n) × ((j : ℕ) → j < place → row done (len .0) (rows list) j ≡ 0)
+Inv-loop list len counts n place₀ place = (place ≤ n) × ((j : ℕ) → j < place → row counts (len .0) (rows list) j ≡ 0)
 
 abbrev μ-loop : tie.MeasureT-loop
-μ-loop list len done n place₀ place = n - place
+μ-loop list len counts n place₀ place = n - place
 
 loop-holds : tie.Need-loop-holds Inv-loop μ-loop
 loop-holds c = (omega arith, below-none _)

@@ -11,10 +11,10 @@ use Rattle.faults.proofs.faulty_job.Statement.{statement}
 use Rattle.faults.proofs.faulty_job.Tie as tie
 
 abbrev Inv-loop : tie.InvT-loop
-Inv-loop done place work jobs job₀ job = (job ≤ jobs) × ((k : ℕ) → k < job → countedKind done place (work .0) k ≡ 0)
+Inv-loop counts place work jobs job₀ job = (job ≤ jobs) × ((k : ℕ) → k < job → countedKind counts place (work .0) k ≡ 0)
 
 abbrev μ-loop : tie.MeasureT-loop
-μ-loop done place work jobs job₀ job = jobs - job
+μ-loop counts place work jobs job₀ job = jobs - job
 
 loop-holds : tie.Need-loop-holds Inv-loop μ-loop
 loop-holds c = (omega arith, below-none _)

@@ -4,7 +4,7 @@ use mathlib.Core.Path.{sym, ap, _∙_}
 use borrow.Author.Needs.{needs}
 use native.Mathlib.Omega.{arith}
 use Rattle.fill.specs.Grid.{quickMark}
-use Rattle.fill.proofs.FillLaws.{at-rate, at-rule, at-size, at-fit}
+use Rattle.fill.proofs.FillLaws.{at-rate, at-rule, at-size, at-rated}
 use Rattle.fill.proofs.mark.Statement.{statement}
 use Rattle.fill.proofs.mark.Tie as tie
 
@@ -18,7 +18,7 @@ returns-3 : tie.Need-returns-3
 returns-3 c = c .size .ensures ∙ sym (at-size _ _ _ _ _ _ (omega arith) (omega arith))
 
 returns-4 : tie.Need-returns-4
-returns-4 c = c .fit-mark .ensures ∙ sym (at-fit _ _ _ _ _ _ (omega arith))
+returns-4 c = c .rated-mark .ensures ∙ sym (at-rated _ _ _ _ _ _ (omega arith))
 
 pub mark-spec : {M : Type 1} → statement M
 mark-spec = tie.close (tie.spec
