@@ -215,8 +215,7 @@ fn sound(random: &mut Random, slots: usize, most_tasks: usize, most_cores: usize
     }
 }
 
-/// A task that takes about its share of the cores, most often with work that its rates can do; the
-/// last slot need not come out even.
+/// A task that takes about its share of the cores; its last slot need not come out even.
 fn task(random: &mut Random, slots: usize, count: usize, cores: usize, most_rate: usize) -> Task {
     let mut rates = [0; MOST_CORES];
     rates[..cores].fill(random.between(1, most_rate) as u8);

@@ -1,7 +1,7 @@
 -- What the code finds in a cell is what the definitions say of it; and which numbers fit, where no refusal stands in the way.
 -- Assumes nothing.
 use Prim.Native.Nat.{ℕ, zero, suc, pred, _+_, _*_, _-_, _≤_, _<_}
-use native.Mathlib.Nat.{mul-le-mul, mul-le-mul-right, div-le-self, mod-lt}
+use native.Mathlib.Nat.{mul-le-mul, mul-le-mul-right, div-le-self}
 use native.Mathlib.Omega.{arith}
 use mathlib.Core.Path.{_≡_, refl, sym, ap, subst, _∙_}
 use mathlib.Core.Logic.{_≢_}
@@ -11,7 +11,6 @@ use lib.Dec.{ltb, eqb}
 use lib.Arith.{digits-div, digits-mod}
 use Rattle.laws.specs.Lists.{nth}
 use Rattle.laws.specs.Tests.{all}
-use Rattle.laws.proofs.SumLaws.{gate-le, sum-le, sum-const}
 use Rattle.tasks.specs.declared.Task.{Task}
 use Rattle.tasks.specs.declared.TaskList.{TaskList}
 use Rattle.tasks.specs.declared.Work.{Work}
@@ -19,7 +18,7 @@ use Rattle.tasks.specs.Task.{workIn, rate, task, taskAt, rows}
 use Rattle.tasks.specs.Window.{isOpen, jobAt}
 use Rattle.tasks.specs.Instance.{Instance, instanceOf, Regular}
 use Rattle.tasks.proofs.SoundLaws.{rows-length, rows-task, InRange, SoundList, sound-list, length-whole, instance-regular}
-use Rattle.table.specs.Table.{cells, slotOf, coreOf, ofJob, share, done, free}
+use Rattle.table.specs.Table.{slotOf, coreOf, free}
 use Rattle.table.specs.Fault.{knownKind, cellKind}
 use Rattle.faults.specs.Tests.{freeIn, counterAt}
 use Rattle.checker.specs.declared.Effect.the-variants.{Nothing, Does, Faulty}
@@ -27,11 +26,10 @@ use Rattle.checker.specs.Checks.{instanceFor, Checkable, At, effectOf}
 use Rattle.checker.proofs.FaultLaws.{after, kind-unknown, kind-known}
 
 -- ---- what fits
--- an instance of at most 16 tasks, 4096 cells, 1024 jobs a task, works up to 4096 and rates up to 15
+-- an instance of at most 16 tasks and 1024 jobs a task, with works up to 4096 and rates up to 15
 pub record Small (P : Instance) : Type 0 where
   pub regular : Regular P
   pub few-tasks : P .tasks ≤ 16
-  pub few-cells : cells P ≤ 4096
   pub few-jobs : (i : ℕ) → P .jobs i ≤ 1024
   pub little-work : (i : ℕ) → i ≢ 0 → i ≤ P .tasks → P .work i ≤ 4096
   pub few-units : (i j : ℕ) → i ≢ 0 → i ≤ P .tasks → j < P .cores → P .rate i j ≤ 15
@@ -76,25 +74,10 @@ module _ {list : TaskList} {m h : ℕ} {t : List ℕ} (ready : Checkable list m 
   ready-small = record {
     regular = subst (λ n. Regular (instanceOf n m (rows list))) (sym (ready .slots)) (instance-regular listed (length-whole listed));
     few-tasks = listed .few-tasks;
-    few-cells = mul-le-mul few-slots few-cores;
     few-jobs = λ i. omega (arith, div-le-self h (task (rows list) i .period .0), few-slots);
     little-work = λ i x l. listed .in-range i x l .work-le;
     few-units = λ i j x l q. listed .in-range i x l .rate-le j (omega (arith, few-cores));
   }
-
--- a cell does at most 15 units
-share-few : {P : Instance} → Small P → (i k d v : ℕ) → i ≢ 0 → i ≤ P .tasks → share P i k d v ≤ 15
-unfolding share
-share-few {P} small i k d v x l = omega (
-  arith,
-  gate-le (ofJob P i k d v) (P .rate i (coreOf P d)),
-  small .few-units i (coreOf P d) x l (mod-lt d (small .regular .some-core)),
-)
-
--- so the first c cells do at most 15 units each
-pub done-few : {P : Instance} → Small P → (f : ℕ → ℕ) (c i k : ℕ) → i ≢ 0 → i ≤ P .tasks → done P c f i k ≤ c * 15
-unfolding done
-done-few {P} small f c i k x l = rw (sum-const c 15) at (sum-le c (λ d. share P i k d (f d)) (λ d. 15) (λ d q. share-few small i k d (f d) x l))
 
 -- ---- the effect of a cell
 module _ (P : Instance) (f : ℕ → ℕ) (c : ℕ) where
@@ -111,7 +94,7 @@ module _ (P : Instance) (f : ℕ → ℕ) (c : ℕ) where
 
     -- and one without
     effect-does : {k : ℕ} → k ≡ cellKind P f c → k ≡ 0
-        → Does (counterAt (pred (f c)) (P .job (f c) (slotOf P c))) (record { 0 = P .rate (f c) (coreOf P c) }) (record { 0 = P .work (f c) })
+        → Does (counterAt (pred (f c)) (P .job (f c) (slotOf P c))) (record { 0 = P .work (f c) }) (record { 0 = P .rate (f c) (coreOf P c) })
         ≡ effectOf P f c
     unfolding effectOf
     effect-does {k} e z = rw (after (f c) x, sym e, z)
@@ -205,9 +188,9 @@ module _ {list : TaskList} {m h : ℕ} {t : List ℕ} {slot core : ℕ} (at : At
         -- none does, and the task does its work
         pub does-there : k ≡ 0 → {job : ℕ} → job ≡ jobAt h (τ .offset .0) (τ .period .0) slot
             → {place : ℕ} → place ≡ counterAt (nth t c - 1) job → {does : Work} → does ≡ workIn (rate τ core) (record { 0 = 1 })
-            → Does place does (τ .work) ≡ effectOf P (nth t) c
+            → Does place (τ .work) does ≡ effectOf P (nth t) c
         does-there z ej ep ew =
-            (λ i. Does ((ep ∙ (λ i. counterAt (pred-is (nth t c) i) ((ej ∙ job-is) i))) i) ((ew ∙ units) i) (work-is i)) ∙ effect-does P (nth t) c x kind-is z
+            (λ i. Does ((ep ∙ (λ i. counterAt (pred-is (nth t c) i) ((ej ∙ job-is) i))) i) (work-is i) ((ew ∙ units) i)) ∙ effect-does P (nth t) c x kind-is z
           where
             pred-is : (v : ℕ) → v - 1 ≡ pred v
             pred-is zero = omega arith

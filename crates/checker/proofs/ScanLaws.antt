@@ -1,4 +1,4 @@
--- One pass over the cells: the cells passed have no fault, and the counters hold what they do for each job.
+-- One pass over the cells: the cells passed have no fault, and the counters hold each job's count.
 -- Assumes nothing.
 use Prim.Native.Nat.{ℕ, zero, suc, pred, _+_, _*_, _≤_, _<_}
 use native.Mathlib.Nat.{mod-lt}
@@ -49,31 +49,31 @@ module _ (P : Instance) (f : ℕ → ℕ) (c : ℕ) where
   unfolding effectOf
   nothing-is = go (f c) (cellKind P f c) _ _ _
     where
-      go : (v k y s C : ℕ) → effectIf v k y s C ≡ Nothing → v ≡ 0
-      go zero k y s C e = refl
-      go (suc v) zero y s C e = let z : _≡_ {A = ℕ} 0 1 = cc in absurd (omega arith)
-      go (suc v) (suc k) y s C e = let z : _≡_ {A = ℕ} 0 1 = cc in absurd (omega arith)
+      go : (v k y C s : ℕ) → effectIf v k y C s ≡ Nothing → v ≡ 0
+      go zero k y C s e = refl
+      go (suc v) zero y C s e = let z : _≡_ {A = ℕ} 0 1 = cc in absurd (omega arith)
+      go (suc v) (suc k) y C s e = let z : _≡_ {A = ℕ} 0 1 = cc in absurd (omega arith)
 
   -- so much work for the job of a counter: the task there has no fault
-  does-is : (x : ℕ) (w n : Work) → effectOf P f c ≡ Does x w n
+  does-is : (x : ℕ) (w n : Work) → effectOf P f c ≡ Does x n w
       → (f c ≢ 0) × (cellKind P f c ≡ 0) × (x ≡ counterAt (pred (f c)) (P .job (f c) (slotOf P c))) × (w .0 ≡ P .rate (f c) (coreOf P c)) × (n .0 ≡ P .work (f c))
   unfolding effectOf
   does-is x w n = go (f c) (cellKind P f c) _ _ _
     where
-      go : (v k y s C : ℕ) → effectIf v k y s C ≡ Does x w n → (v ≢ 0) × (k ≡ 0) × (x ≡ y) × (w .0 ≡ s) × (n .0 ≡ C)
-      go zero k y s C e = let z : _≡_ {A = ℕ} 0 1 = cc in absurd (omega arith)
-      go (suc v) zero y s C e = (λ z. omega arith, refl, cc, cc, cc)
-      go (suc v) (suc k) y s C e = let z : _≡_ {A = ℕ} 0 1 = cc in absurd (omega arith)
+      go : (v k y C s : ℕ) → effectIf v k y C s ≡ Does x n w → (v ≢ 0) × (k ≡ 0) × (x ≡ y) × (w .0 ≡ s) × (n .0 ≡ C)
+      go zero k y C s e = let z : _≡_ {A = ℕ} 0 1 = cc in absurd (omega arith)
+      go (suc v) zero y C s e = (λ z. omega arith, refl, cc, cc, cc)
+      go (suc v) (suc k) y C s e = let z : _≡_ {A = ℕ} 0 1 = cc in absurd (omega arith)
 
   -- a fault: it is the cell's
   faulty-is : (kind : ℕ) → effectOf P f c ≡ Faulty kind → (cellKind P f c ≡ kind) × (kind ≢ 0)
   unfolding effectOf
   faulty-is kind = go (f c) (cellKind P f c) _ _ _
     where
-      go : (v k y s C : ℕ) → effectIf v k y s C ≡ Faulty kind → (k ≡ kind) × (kind ≢ 0)
-      go zero k y s C e = let z : _≡_ {A = ℕ} 0 1 = cc in absurd (omega arith)
-      go (suc v) zero y s C e = let z : _≡_ {A = ℕ} 0 1 = cc in absurd (omega arith)
-      go (suc v) (suc k) y s C e = let q : suc k ≡ kind = cc in (q, λ z. omega arith)
+      go : (v k y C s : ℕ) → effectIf v k y C s ≡ Faulty kind → (k ≡ kind) × (kind ≢ 0)
+      go zero k y C s e = let z : _≡_ {A = ℕ} 0 1 = cc in absurd (omega arith)
+      go (suc v) zero y C s e = let z : _≡_ {A = ℕ} 0 1 = cc in absurd (omega arith)
+      go (suc v) (suc k) y C s e = let q : suc k ≡ kind = cc in (q, λ z. omega arith)
 
 -- ---- the work counted
 module _ (P : Instance) (f : ℕ → ℕ) (c i k : ℕ) where
@@ -127,13 +127,13 @@ module _ {P : Instance} {f : ℕ → ℕ} {counters : List ℕ} where
           clean = below-more _ c (p .clean) (kind-idle P f c z);
           counted = record {
             size = p .counted .size;
-            work = λ i k l q. p .counted .work i k l q
+            count = λ i k l q. p .counted .count i k l q
                 ∙ sym (count-other P f c (suc i) k (λ t. omega (arith, z, of-job P (suc i) k c (f c) t .0)));
           };
         }
 
     -- at a cell that does work
-    module _ (small : Small P) (l : c < cells P) {x : ℕ} {w n : Work} (e : effectOf P f c ≡ Does x w n) where
+    module _ (small : Small P) (l : c < cells P) {x : ℕ} {w n : Work} (e : effectOf P f c ≡ Does x n w) where
       is : (f c ≢ 0) × (cellKind P f c ≡ 0) × (x ≡ counterAt (pred (f c)) (P .job (f c) (slotOf P c))) × (w .0 ≡ P .rate (f c) (coreOf P c)) × (n .0 ≡ P .work (f c))
       is = does-is P f c x w n e
 
@@ -164,7 +164,7 @@ module _ {P : Instance} {f : ℕ → ℕ} {counters : List ℕ} where
 
       -- and holds the job's count
       so-far : nth counters x ≡ jobCount P c f (f c) k
-      so-far = ap (nth counters) (is .2) ∙ p .counted .work i k few-i few-k ∙ ap (λ v. jobCount P c f v k) (sym (after (f c) (is .0)))
+      so-far = ap (nth counters) (is .2) ∙ p .counted .count i k few-i few-k ∙ ap (λ v. jobCount P c f v k) (sym (after (f c) (is .0)))
 
       -- its work is little
       little : P .work (f c) ≤ 4096
@@ -184,13 +184,13 @@ module _ {P : Instance} {f : ℕ → ℕ} {counters : List ℕ} where
       pub works : Passed P f (c + 1) (set counters x (counted (n .0) (nth counters x) (w .0)))
       works = record {
         clean = below-more _ c (p .clean) (is .1);
-        counted = record { size = simp length-set (p .counted .size); work = counts };
+        counted = record { size = simp length-set (p .counted .size); count = counts };
       }
         where
           counts : (a b : ℕ) → a < 16 → b < 1024 → nth (set counters x (counted (n .0) (nth counters x) (w .0))) (counterAt a b) ≡ jobCount P (c + 1) f (suc a) b
           counts a b la lb = elim (ℕ-discrete (counterAt a b) x) [
             | yes q ↦ ap (nth (set counters x _)) q ∙ getD-set-same counters x _ 0 (omega (arith, counter-in, p .counted .size)) ∙ more q
-            | no y ↦ getD-set-other counters x (counterAt a b) _ 0 y ∙ p .counted .work a b la lb ∙ sym (count-other P f c (suc a) b (others y))
+            | no y ↦ getD-set-other counters x (counterAt a b) _ 0 y ∙ p .counted .count a b la lb ∙ sym (count-other P f c (suc a) b (others y))
           ]
             where
               -- the job's own counter
@@ -246,15 +246,15 @@ module _ {list : TaskList} {m h : ℕ} {t : List ℕ} {slot core : ℕ} (at : At
   rests-at q = as-far (rests p (sym e ∙ q)) (omega arith)
 
   -- at one that does work: its counter
-  pub counter-at : {x : ℕ} {w n : Work} → r ≡ Does x w n → x < 16384
+  pub counter-at : {x : ℕ} {w n : Work} → r ≡ Does x n w → x < 16384
   counter-at q = counter-in p (ready-small (at .ready)) (cell-there at) (sym e ∙ q)
 
   -- with room for the work
-  pub fits-at : {x : ℕ} {w n : Work} → r ≡ Does x w n → n .0 + w .0 ≤ 65535
+  pub fits-at : {x : ℕ} {w n : Work} → r ≡ Does x n w → n .0 + w .0 ≤ 65535
   fits-at q = work-fits p (ready-small (at .ready)) (cell-there at) (sym e ∙ q)
 
   -- after it
-  pub works-at : {x : ℕ} {w n : Work} → r ≡ Does x w n → {count : ℕ} → count ≡ counted (n .0) (nth counters x) (w .0)
+  pub works-at : {x : ℕ} {w n : Work} → r ≡ Does x n w → {count : ℕ} → count ≡ counted (n .0) (nth counters x) (w .0)
       → Passed (instanceFor list m h) (nth t) (slot * m + (core + 1)) (set counters x count)
   works-at q s = rw s (as-far (works p (ready-small (at .ready)) (cell-there at) (sym e ∙ q)) (omega arith))
 

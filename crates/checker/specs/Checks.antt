@@ -43,16 +43,16 @@ pub record At (list : TaskList) (m h : ℕ) (t : List ℕ) (slot core : ℕ) : T
   pub core-in : core < m
 
 -- ---- cells
--- nothing for an idle cell, a fault of its kind, or the work s for the job of counter x, whose work is C
+-- nothing for an idle cell, a fault of its kind, or s units for the job of counter x and work C
 abbrev pub effectIf : ℕ → ℕ → ℕ → ℕ → ℕ → Effect
-effectIf zero kind x s C = Nothing
-effectIf (suc v) zero x s C = Does x (record { 0 = s }) (record { 0 = C })
-effectIf (suc v) (suc kind) x s C = Faulty (suc kind)
+effectIf zero kind x C s = Nothing
+effectIf (suc v) zero x C s = Does x (record { 0 = C }) (record { 0 = s })
+effectIf (suc v) (suc kind) x C s = Faulty (suc kind)
 
 -- what cell c does
 unfoldable pub effectOf : Instance → (ℕ → ℕ) → ℕ → Effect
 effectOf P f c =
-    effectIf (f c) (cellKind P f c) (counterAt (pred (f c)) (P .job (f c) (slotOf P c))) (P .rate (f c) (coreOf P c)) (P .work (f c))
+    effectIf (f c) (cellKind P f c) (counterAt (pred (f c)) (P .job (f c) (slotOf P c))) (P .work (f c)) (P .rate (f c) (coreOf P c))
 
 -- the count of job k of task i after the first c cells
 abbrev pub jobCount : Instance → ℕ → (ℕ → ℕ) → ℕ → ℕ → ℕ
@@ -61,7 +61,7 @@ jobCount P c f i k = countOf (allNeeded P c f i k) (done P c f i k)
 -- the counters hold each job's count after the first c cells
 pub record Counted (P : Instance) (f : ℕ → ℕ) (c : ℕ) (counters : List ℕ) : Type 0 where
   pub size : length counters ≡ 16384
-  pub work : (i k : ℕ) → i < 16 → k < 1024 → nth counters (counterAt i k) ≡ jobCount P c f (suc i) k
+  pub count : (i k : ℕ) → i < 16 → k < 1024 → nth counters (counterAt i k) ≡ jobCount P c f (suc i) k
 
 -- the first faulty cell
 unfoldable pub cellFault : Instance → (ℕ → ℕ) → Fault
@@ -69,7 +69,7 @@ cellFault P f =
     let c = seek (cells P) (cellKind P f) in
     faultIf (ltb c (cells P)) (inCell (slotOf P c) (suc (coreOf P c)) (cellKind P f c)) noFault
 
--- what is told of the cells, with the work of those before the first faulty one
+-- what is told of the cells, with the jobs' counts after those before the first faulty one
 pub record CellsTold (P : Instance) (f : ℕ → ℕ) (r : Verdict) (counters : List ℕ) : Type 0 where
   pub told : checkedAs r ≡ checked (cellFault P f)
   pub counted : Counted P f (seek (cells P) (cellKind P f)) counters

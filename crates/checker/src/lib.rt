@@ -22,7 +22,7 @@ pub enum Verdict {
 
 const IDLE: u8 = 0;
 
-// What a cell does: nothing; so much work for the job at a counter, whose work follows; or a fault of a kind.
+// What a cell does: nothing; for the job at a counter, of this work, so much; or a fault of a kind.
 enum Effect {
     Nothing,
     Does(usize, Work, Work),
@@ -55,8 +55,8 @@ fn cell_effect(list: TaskList, len: Slots, m: u8, table: &[u8], slot: u16, core:
     let work = task.work;
     Effect::Does(
         faults::counter_of(place, job),
-        tasks::work_in(rate, Slots(1)),
         work,
+        tasks::work_in(rate, Slots(1)),
     )
 }
 
@@ -75,7 +75,7 @@ fn scan_cells(list: TaskList, len: Slots, m: u8, table: &[u8], counts: &mut [u16
             let effect = cell_effect(list, len, m, table, slot, core);
             match effect {
                 Effect::Nothing => {}
-                Effect::Does(counter, does, work) => {
+                Effect::Does(counter, work, does) => {
                     counts[counter] = faults::count_cell(counts[counter], work, does);
                 }
                 Effect::Faulty(kind) => {

@@ -61,9 +61,9 @@ module _ (C d : ℕ) (few : C ≤ unneeded) where
   counted-count false s = rw (le-ltb unneeded C few)
 
   -- and its fault, if the job was complete before a cell that was not needed
-  pub count-kind : (needed : Bool) → d ≢ unneeded → ((T needed → ⊥) → C ≤ d) → countKind C (countOf needed d) ≡ workKind C d needed
+  pub count-kind : (needed : Bool) → (T needed → d ≢ unneeded) → ((T needed → ⊥) → C ≤ d) → countKind C (countOf needed d) ≡ workKind C d needed
   unfolding countKind countOf
-  count-kind true y h = rw (ne-eqb d unneeded y)
+  count-kind true y h = rw (ne-eqb d unneeded (y tt))
   count-kind false y h = work-unneeded C unneeded _ few (λ t. t) ∙ sym (work-unneeded C d false (h (λ t. t)) (λ t. t))
 
 -- ---- the fault of a job, as its counter tells it

@@ -27,7 +27,7 @@ use Rattle.table.proofs.ShareLaws.{share-none, share-own}
 use Rattle.rules.specs.Rules.{tests, permitted, settled, allSettled}
 use Rattle.sets.specs.Sets.{has, without}
 use Rattle.sets.proofs.SetLaws.{none-has, without-has}
-use Rattle.grid.specs.Grid.{entryOn, endsOn, rateOn, tasksOn, counterOn, ratedOn, fitOn, setsOn, settledOn, allSettledOn}
+use Rattle.grid.specs.Grid.{entryOn, endsOn, rateOn, tasksOn, counterOn, ratedOn, ableOn, setsOn, settledOn, allSettledOn}
 use Rattle.grid.specs.GridFor.{Small, counterOf, closedCounter, entryOf, GridFor, Lefts}
 use Rattle.grid.proofs.ReadLaws.{sets-has}
 
@@ -324,10 +324,10 @@ module _ {P : Instance} {e : ℕ} {grid : List ℕ} (small : Small P) (ready : G
   unfolding free
   sets-start {first} {slot} ef ls t l lefts = record {
     may = λ v j lv _ lj. sets-has grid l slot (tasksOn grid) 0 v j (rw (ready .tasks) lv) (omega (arith, small .few-cores))
-        ∙ ap (λ x. has (fitOn grid x (nth l (counterOn grid slot x))) 0 j) (zero-add v)
+        ∙ ap (λ x. has (ableOn grid x (nth l (counterOn grid slot x))) 0 j) (zero-add v)
         ∙ gate-has (ltb 0 (nth l (counterOn grid slot v))) (ratedOn grid v) j
         ∙ ap (λ b. ltb 0 (nth l (counterOn grid slot v)) && b) (ready .rated v j lv lj)
-        ∙ fitting v j lv;
+        ∙ is-able v j lv;
   }
     where
       core-zero : coreOf P first ≡ 0
@@ -336,8 +336,8 @@ module _ {P : Instance} {e : ℕ} {grid : List ℕ} (small : Small P) (ready : G
       is-free : (i : ℕ) → free P first (nth t) i ≡ true
       is-free i = rw core-zero
 
-      fitting : (v j : ℕ) → v < P .tasks → ltb 0 (nth l (counterOn grid slot v)) && ltb 0 (P .rate (suc v) j) ≡ every (may-tests P slot first (nth t) v j)
-      fitting v j lv = test-same _ _
+      is-able : (v j : ℕ) → v < P .tasks → ltb 0 (nth l (counterOn grid slot v)) && ltb 0 (P .rate (suc v) j) ≡ every (may-tests P slot first (nth t) v j)
+      is-able v j lv = test-same _ _
           (λ h. let p = both (ltb 0 (nth l (counterOn grid slot v))) (ltb 0 (P .rate (suc v) j)) h in test-cases (P .opens (suc v) slot)
           (λ o. holds-every (may-tests P slot first (nth t) v j) (o, (p .1, (rw (is-free (suc v)) tt, (rw (left-open ls lv first (nth t) l lefts o) at (p .0), tt)))))
           (λ x. absurd (omega (arith, ltb→lt 0 (nth l (counterOn grid slot v)) (p .0), lefts .none-closed, ap (nth l) (counter-closed ls lv x .0)))))

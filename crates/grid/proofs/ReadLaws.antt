@@ -18,7 +18,7 @@ use Rattle.laws.proofs.SumLaws.{gate-lt, gate-le}
 use Rattle.laws.proofs.TestLaws.{all-false, all-true}
 use Rattle.sets.specs.Sets.{has, pushed}
 use Rattle.sets.proofs.SetLaws.{none-has, pushed-first, pushed-next, pushed-lt}
-use Rattle.grid.specs.Grid.{most, entryOn, endsOn, twinOn, tasksOn, slotsOn, counterOn, ratedOn, fitOn, setsFrom, setsOn, twinRankOn, floorOn, settledOn, allSettledOn, OnGrid}
+use Rattle.grid.specs.Grid.{most, entryOn, endsOn, twinOn, tasksOn, slotsOn, counterOn, ratedOn, ableOn, setsFrom, setsOn, twinRankOn, floorOn, settledOn, allSettledOn, OnGrid}
 
 -- ---- another slot of the grid
 pub at-slot : {grid : List ℕ} {slot t : ℕ} → OnGrid grid slot → t < slotsOn grid → OnGrid grid t
@@ -95,9 +95,9 @@ some-is zero l = refl
 some-is (suc w) l = omega (arith, gate-lt 0 (suc w) 1 (omega arith))
 
 -- cores times 1 or 0 are let through or not
-pub fit-times : (w x : ℕ) {some : ℕ} → some ≡ gate (ltb 0 w) 1 → (some * (x % 16) ≡ gate (ltb 0 w) (x % 16)) × (some * (x % 16) < 16)
+pub able-times : (w x : ℕ) {some : ℕ} → some ≡ gate (ltb 0 w) 1 → (some * (x % 16) ≡ gate (ltb 0 w) (x % 16)) × (some * (x % 16) < 16)
 unfolding gate
-fit-times w x e = rw e (go (ltb 0 w))
+able-times w x e = rw e (go (ltb 0 w))
   where
     go : (b : Bool) → (gate b 1 * (x % 16) ≡ gate b (x % 16)) × (gate b 1 * (x % 16) < 16)
     go true = (omega arith, omega arith)
@@ -111,26 +111,26 @@ module _ (grid l : List ℕ) (slot : ℕ) where
   sets-none-yet n e = let z : tasksOn grid - n ≡ 0 = omega arith in ap (λ j. setsFrom grid l slot j n) (sym z)
 
   -- a task more
-  pub sets-more : (n v s f k : ℕ) → v < tasksOn grid → s ≡ setsFrom grid l slot (tasksOn grid - n) n → n ≡ suc v → k ≡ counterOn grid slot v → f ≡ fitOn grid v (nth l k)
+  pub sets-more : (n v s f k : ℕ) → v < tasksOn grid → s ≡ setsFrom grid l slot (tasksOn grid - n) n → n ≡ suc v → k ≡ counterOn grid slot v → f ≡ ableOn grid v (nth l k)
       → pushed s f ≡ setsFrom grid l slot (tasksOn grid - v) v
   unfolding setsFrom
   sets-more n v s f k lv es en ek ef =
       let more : tasksOn grid - v ≡ suc (tasksOn grid - n) = omega arith in
-      ap₂ pushed (es ∙ ap (setsFrom grid l slot (tasksOn grid - n)) en) (ef ∙ ap (λ x. fitOn grid v (nth l x)) ek) ∙ ap (λ j. setsFrom grid l slot j v) (sym more)
+      ap₂ pushed (es ∙ ap (setsFrom grid l slot (tasksOn grid - n)) en) (ef ∙ ap (λ x. ableOn grid v (nth l x)) ek) ∙ ap (λ j. setsFrom grid l slot j v) (sym more)
 
   -- all tasks
   pub sets-all : (n s : ℕ) → n ≡ 0 → s ≡ setsFrom grid l slot (tasksOn grid - n) n → s ≡ setsOn grid l slot
   sets-all n s z e = let all : tasksOn grid - n ≡ tasksOn grid = omega arith in e ∙ (λ i. setsFrom grid l slot (all i) (z i))
 
   -- a task has 4 bits
-  fit-lt : (v : ℕ) → fitOn grid v (nth l (counterOn grid slot v)) < 16
-  fit-lt v = omega (arith, gate-le (ltb 0 (nth l (counterOn grid slot v))) (ratedOn grid v))
+  able-lt : (v : ℕ) → ableOn grid v (nth l (counterOn grid slot v)) < 16
+  able-lt v = omega (arith, gate-le (ltb 0 (nth l (counterOn grid slot v))) (ratedOn grid v))
 
   -- and j tasks 4 * j
   pub sets-lt : (j v : ℕ) → setsFrom grid l slot j v < 16 ^ j
   unfolding setsFrom
   sets-lt zero v = omega arith
-  sets-lt (suc j) v = pushed-lt (setsFrom grid l slot j (suc v)) _ j (sets-lt j (suc v)) (fit-lt v)
+  sets-lt (suc j) v = pushed-lt (setsFrom grid l slot j (suc v)) _ j (sets-lt j (suc v)) (able-lt v)
 
   -- there is room for one more
   pub sets-room : (n s : ℕ) → tasksOn grid ≤ 16 → 0 < n → n ≤ tasksOn grid → s ≡ setsFrom grid l slot (tasksOn grid - n) n → s < 2 ^ 60
@@ -139,16 +139,16 @@ module _ (grid l : List ℕ) (slot : ℕ) where
       rw es (lt-of-lt-of-le (sets-lt (tasksOn grid - n) n) up)
 
   -- a task is in the set of a core if its own bits have the core
-  pub sets-has : (j v w c : ℕ) → w < j → c < 4 → has (setsFrom grid l slot j v) w c ≡ has (fitOn grid (v + w) (nth l (counterOn grid slot (v + w)))) 0 c
+  pub sets-has : (j v w c : ℕ) → w < j → c < 4 → has (setsFrom grid l slot j v) w c ≡ has (ableOn grid (v + w) (nth l (counterOn grid slot (v + w)))) 0 c
   unfolding setsFrom
   sets-has zero v w c lw lc = absurd (omega arith)
-  sets-has (suc j) v zero c lw lc = pushed-first _ _ c (fit-lt v) lc ∙ ap (λ x. has (fitOn grid x (nth l (counterOn grid slot x))) 0 c) (sym (add-zero v))
-  sets-has (suc j) v (suc w) c lw lc = pushed-next _ _ w c (fit-lt v) ∙ sets-has j (suc v) w c (omega arith) lc
-      ∙ ap (λ x. has (fitOn grid x (nth l (counterOn grid slot x))) 0 c) (omega arith)
+  sets-has (suc j) v zero c lw lc = pushed-first _ _ c (able-lt v) lc ∙ ap (λ x. has (ableOn grid x (nth l (counterOn grid slot x))) 0 c) (sym (add-zero v))
+  sets-has (suc j) v (suc w) c lw lc = pushed-next _ _ w c (able-lt v) ∙ sets-has j (suc v) w c (omega arith) lc
+      ∙ ap (λ x. has (ableOn grid x (nth l (counterOn grid slot x))) 0 c) (omega arith)
 
   -- and no other task
   pub sets-none : (j v w c : ℕ) → j ≤ w → has (setsFrom grid l slot j v) w c ≡ false
   unfolding setsFrom
   sets-none zero v w c l = none-has w c
   sets-none (suc j) v zero c l = absurd (omega arith)
-  sets-none (suc j) v (suc w) c l = pushed-next _ _ w c (fit-lt v) ∙ sets-none j (suc v) w c (omega arith)
+  sets-none (suc j) v (suc w) c l = pushed-next _ _ w c (able-lt v) ∙ sets-none j (suc v) w c (omega arith)

@@ -56,13 +56,13 @@ abbrev pub ratedOn : List ℕ → ℕ → ℕ
 ratedOn grid v = nth grid (16483 + v) % 16
 
 -- the same, if there is work
-abbrev pub fitOn : List ℕ → ℕ → ℕ → ℕ
-fitOn grid v w = gate (ltb 0 w) (ratedOn grid v)
+abbrev pub ableOn : List ℕ → ℕ → ℕ → ℕ
+ableOn grid v w = gate (ltb 0 w) (ratedOn grid v)
 
 -- the sets of the tasks v, v + 1, .., j of them, that have work left in the slot, on the cores where their rate is positive
 unfoldable pub setsFrom : List ℕ → List ℕ → ℕ → ℕ → ℕ → ℕ
 setsFrom grid l slot zero v = 0
-setsFrom grid l slot (suc j) v = pushed (setsFrom grid l slot j (suc v)) (fitOn grid v (nth l (counterOn grid slot v)))
+setsFrom grid l slot (suc j) v = pushed (setsFrom grid l slot j (suc v)) (ableOn grid v (nth l (counterOn grid slot v)))
 
 -- the same of all tasks
 abbrev pub setsOn : List ℕ → List ℕ → ℕ → ℕ

@@ -20,7 +20,7 @@ ghost use mathlib.Core.Path.{_≡_};
 ghost use Prim.Native.Nat.{_+_, _≤_, _<_};
 ghost use lib.Dec.{ltb};
 ghost use Rattle.laws.specs.Sum.{gate};
-ghost use Rattle.grid.specs.Grid.{counterOn, rateOn, fitOn, setsOn, twinRankOn, floorOn, settledOn, allSettledOn, tasksOn, OnGrid};
+ghost use Rattle.grid.specs.Grid.{counterOn, rateOn, ableOn, setsOn, twinRankOn, floorOn, settledOn, allSettledOn, tasksOn, OnGrid};
 use tasks::Work;
 
 // Where the grid's parts begin, behind the entries.
@@ -78,9 +78,9 @@ fn some(work: Work) -> u64
 }
 
 // The cores, as bits, on which a task has a positive rate, if there is work.
-fn fit(grid: &[u16; 17523], task: usize, work: Work) -> u64
+fn able(grid: &[u16; 17523], task: usize, work: Work) -> u64
     requires { ⌜ task < 16 ⌝ }
-    ensures { λ r. ⌜ (r ≡ fitOn (now (grid .entry)) task (work .0)) × (r < 16) ⌝ }
+    ensures { λ r. ⌜ (r ≡ ableOn (now (grid .entry)) task (work .0)) × (r < 16) ⌝ }
 {
     some(work) * (grid[RATED_AT + task] % 16) as u64
 }
@@ -95,7 +95,7 @@ pub fn enter(grid: &[u16; 17523], left: &[u16; 16385], slot: usize) -> u64
     while 0 < task {
         task -= 1;
         let work = Work(left[counter(grid, slot, task)]);
-        sets = sets::pushed(sets, fit(grid, task, work));
+        sets = sets::pushed(sets, able(grid, task, work));
     }
     sets
 }

@@ -1,4 +1,4 @@
--- A valid table, played, serves each task: from its offset on a task is shown exactly where it stands, so each of its windows gets the work of the window's job.
+-- A valid table, played, serves each task: from its offset on a task is shown exactly where it stands, so each of its windows gets at least the work of the window's job.
 -- Assumes nothing.
 use Prim.Native.Nat.{ℕ, _+_, _*_, _-_, _/_, _%_, _≤_, _<_}
 use mathlib.Core.Path.{_≡_, refl, sym, _∙_}
@@ -77,7 +77,7 @@ module _ {m : ℕ} {ts : List Task} (s : SoundList m ts) where
         sum-stays m 4 _ (s .few-cores) (λ j n _. shown-lacking t j (f (cellAt t j)) (rate (task ts i) j) n)
         ∙ sum-ext m _ _ (λ j n. shown-late t j _ n late)
 
-    -- each window gets the work of its job
+    -- each window gets at least the work of its job
     pub plays-work : (K : ℕ) → task ts i .work .0 ≤ sum (task ts i .deadline .0) (λ u. let t = task ts i .offset .0 + (K * task ts i .period .0 + u) in
         sum 4 (λ j. gate (eqb (shownAs m ts t j (f (cellAt t j))) i) (rate (task ts i) j)))
     unfolding instanceOf

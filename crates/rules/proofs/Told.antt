@@ -9,7 +9,7 @@ use lib.Seq.{take-at, drop-at}
 use borrow.Author.Tests.{le-leb}
 use Rattle.laws.specs.Lists.{over}
 use Rattle.tasks.specs.declared.Task.{Task}
-use Rattle.tasks.specs.Refusal.{unless, orNext, refusal, IsSound}
+use Rattle.tasks.specs.Refusal.{unless, orNext, refusal}
 use Rattle.tasks.specs.Instance.{ownInstance}
 use Rattle.table.specs.Table.{cells}
 use Rattle.rules.specs.Walk.{limited}

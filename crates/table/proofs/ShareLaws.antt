@@ -14,7 +14,7 @@ use Rattle.table.specs.Table.{slotOf, coreOf, ofJob, share}
 use Rattle.table.proofs.JobLaws.{job-slot}
 
 -- a gate that lets something through has passed its test
-gate-some : (b : Bool) (x : ℕ) → 0 < gate b x → T b
+pub gate-some : (b : Bool) (x : ℕ) → 0 < gate b x → T b
 unfolding gate
 gate-some true x l = tt
 gate-some false x l = omega arith

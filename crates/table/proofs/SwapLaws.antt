@@ -153,7 +153,7 @@ module _ (P : Instance) where
           (λ p. omega (arith, swapped-before (f c) k c p, v .needed c l n))
           (lt-or-ge a c)
 
-    -- two cells exchanged, whose values move and stand nowhere else in the other's slot, nor between the two for the same job
+    -- two cells exchanged, whose values move and stand nowhere else in the other's slot; between the two stands no task of cell a, and none of cell b for the same job
     pub swap-valid : (f a ≢ 0 → Moves P (f a) a b) → (f b ≢ 0 → Moves P (f b) b a) → Alone P f a b → Alone P f b a → Last f a b → Next P f a b
         → Valid P (swapped a b f)
     swap-valid ma mb oa ob last next = record {

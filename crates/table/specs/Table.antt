@@ -40,7 +40,7 @@ share P i k c v = gate (ofJob P i k c v) (P .rate i (coreOf P c))
 unfoldable pub done : Instance → ℕ → (ℕ → ℕ) → ℕ → ℕ → ℕ
 done P c f i k = sum c (λ d. share P i k d (f d))
 
--- 4.5: the work left: C less what the job's earlier cells in table order did
+-- 4.5: the work left: C less what the job's earlier cells in table order did, and never less than 0
 abbrev pub workLeft : Instance → ℕ → (ℕ → ℕ) → ℕ → ℕ → ℕ
 workLeft P c f i k = P .work i - done P c f i k
 

@@ -22,12 +22,12 @@ counter-requires : tie.Need-counter-requires Inv-loop μ-loop
 counter-requires c κs = (at-slot (c .before .before .before .before .pre) (omega arith), search needs)
 
 pushed-requires : tie.Need-pushed-requires Inv-loop μ-loop
-pushed-requires c κs = (sets-room _ _ _ _ _ (c .before .before .before .before .before .before .before .pre .tasks) (omega (arith, c .before .before .before .loop-test .taken)) (c .before .before .before .before .loop .inv .0) (c .before .before .before .before .loop .inv .1), c .fit .ensures .1)
+pushed-requires c κs = (sets-room _ _ _ _ _ (c .before .before .before .before .before .before .before .pre .tasks) (omega (arith, c .before .before .before .loop-test .taken)) (c .before .before .before .before .loop .inv .0) (c .before .before .before .before .loop .inv .1), c .able .ensures .1)
 
 loop-again : tie.Need-loop-again Inv-loop μ-loop
 loop-again c =
     let a = c .before .before .before .before .before .before .before .before .args in
-    (search needs, c .pushed .ensures ∙ sets-more (a .grid .now) (a .left .now) (a .slot) _ _ _ _ _ (omega (arith, c .before .before .before .before .before .loop .inv .0, c .before .before .before .before .loop-test .taken)) (c .before .before .before .before .before .loop .inv .1) (omega (arith, c .before .before .before .before .loop-test .taken)) (c .before .before .before .counter .ensures .0) (c .before .fit .ensures .0))
+    (search needs, c .pushed .ensures ∙ sets-more (a .grid .now) (a .left .now) (a .slot) _ _ _ _ _ (omega (arith, c .before .before .before .before .before .loop .inv .0, c .before .before .before .before .loop-test .taken)) (c .before .before .before .before .before .loop .inv .1) (omega (arith, c .before .before .before .before .loop-test .taken)) (c .before .before .before .counter .ensures .0) (c .before .able .ensures .0))
 
 returns : tie.Need-returns Inv-loop μ-loop
 returns c = sets-all _ _ _ _ _ (omega (arith, c .loop-test .left)) (c .before .loop .inv .1)
