@@ -92,7 +92,7 @@ uint64_t xiphomera_step(xiphomera_player *player, uint32_t tick, uint8_t cells[4
 /* ---- The search and the checker */
 
 /* Searches a table, with engine 0 (plain) or 1 (quick) and at most `limit` tries. Unless it is refused (1 to 10), the
- * first H x m cells of the buffer are the table found, or 0; the others are not touched. Stack: 73,840 to 663,392,
+ * first H x m cells of the buffer are the table found, or 0; the others are not touched. Stack: 73,360 to 662,912,
  * growing by 144 a cell that is not idle; 864 if refused by 1 to 7. */
 uint64_t xiphomera_search(const xiphomera_task *tasks, size_t count, uint32_t cores, uint32_t engine, uint32_t limit,
                           uint8_t *table, size_t table_length);
@@ -120,7 +120,7 @@ static inline unsigned xiphomera_c(uint64_t answer) { return (uint16_t)answer; }
 
 /* Writes the text of the answer to the text of a problem and gives its bytes; gives 0 and writes nothing if `out` is
  * shorter than the longest answer. A problem without a 04 line is searched with engine 1 and at most 1000000 tries.
- * Stack: at most 667,976. */
+ * Stack: at most 667,496. */
 size_t xiphomera_plan_text(const uint8_t *text, size_t text_length, uint8_t *out, size_t out_length);
 
 #ifdef __cplusplus
