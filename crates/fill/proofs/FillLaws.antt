@@ -25,7 +25,7 @@ use Rattle.windows.specs.Answer.{inSlotAs, inSlot}
 use Rattle.tasks.proofs.WindowLaws.{pos-T, job-lt}
 use Rattle.windows.proofs.AnswerLaws.{told-open, told-closed}
 use Rattle.grid.specs.GridFor.{isQuick}
-use Rattle.fill.specs.Grid.{Fit, entryFor, entryAt, evenPair, rowEven, coresTwin, quickMark, ratedMark, evenMarks, twinMarks, taskCount, coreCount, ratedMarks, marks, ruleTest, sizeAt, markAt, endMark, unmarkedOf, gridOf}
+use Rattle.fill.specs.Grid.{Fit, entryFor, entryAt, evenPair, rowEven, coresTwin, quickMark, ratedMark, taskBits, fourTasks, setMarks, twinMarks, taskCount, coreCount, marks, sizeAt, markAt, endMark, unmarkedOf, gridOf}
 
 -- ---- places stored one after the other
 module _ (s : List ℕ) (g : ℕ → ℕ) where
@@ -134,16 +134,16 @@ module _ (e : ℕ) (b : Bool) where
       go (suc e) x = rw t
 
 -- ---- the marks, by their places
-module _ (n : ℕ) (rates : List ℕ) (x : ℕ) where
-  -- rule A's test
-  pub test-even : x < twinMarks → ruleTest n rates x ≡ rowEven rates (x - evenMarks)
-  unfolding ruleTest
-  test-even l = rw (lt-ltb x twinMarks l)
+module _ (e : ℕ) (rates : List ℕ) (y : ℕ) where
+  -- rule A's bit
+  pub bits-even : y < 16 → taskBits e rates y ≡ quickMark e (rowEven rates y)
+  unfolding taskBits
+  bits-even l = rw (lt-ltb y 16 l)
 
-  -- rule B's
-  pub test-twin : twinMarks ≤ x → ruleTest n rates x ≡ coresTwin n rates ((x - twinMarks) % 4) ((x - twinMarks) / 4)
-  unfolding ruleTest
-  test-twin l = rw (le-ltb x twinMarks l)
+  -- the cores on which the rate is positive
+  pub bits-rated : 16 ≤ y → taskBits e rates y ≡ ratedMark rates (y - 16)
+  unfolding taskBits
+  bits-rated l = rw (le-ltb y 16 l)
 
 -- three numbers
 module _ (n m L x : ℕ) where
@@ -164,28 +164,28 @@ module _ (n m L x : ℕ) where
 
 module _ (n : ℕ) (rates : List ℕ) (m e L x : ℕ) where
   -- a rate
-  pub at-rate : x < evenMarks → markAt n rates m e L x ≡ nth rates x
+  pub at-rate : x < setMarks → markAt n rates m e L x ≡ nth rates x
   unfolding markAt
-  at-rate l = rw (lt-ltb x evenMarks l)
+  at-rate l = rw (lt-ltb x setMarks l)
 
-  -- a mark of rule A or B
-  pub at-rule : evenMarks ≤ x → x < taskCount → markAt n rates m e L x ≡ quickMark e (ruleTest n rates x)
+  -- sets of four tasks
+  pub at-set : setMarks ≤ x → x < twinMarks → markAt n rates m e L x ≡ fourTasks e rates (x - setMarks)
   unfolding markAt
-  at-rule k l = rw (le-ltb x evenMarks k, lt-ltb x taskCount l)
+  at-set k l = rw (le-ltb x setMarks k, lt-ltb x twinMarks l)
+
+  -- a mark of rule B
+  pub at-twin : twinMarks ≤ x → x < taskCount → markAt n rates m e L x ≡ quickMark e (coresTwin n rates ((x - twinMarks) % 4) ((x - twinMarks) / 4))
+  unfolding markAt
+  at-twin k l = rw (le-ltb x setMarks (omega arith), le-ltb x twinMarks k, lt-ltb x taskCount l)
 
   -- a number
-  pub at-size : taskCount ≤ x → x < ratedMarks → markAt n rates m e L x ≡ sizeAt n m L x
+  pub at-size : taskCount ≤ x → markAt n rates m e L x ≡ sizeAt n m L x
   unfolding markAt
-  at-size k l = rw (le-ltb x evenMarks (omega arith), le-ltb x taskCount k, lt-ltb x ratedMarks l)
-
-  -- the cores on which a rate is positive
-  pub at-rated : ratedMarks ≤ x → markAt n rates m e L x ≡ ratedMark rates (x - ratedMarks)
-  unfolding markAt
-  at-rated k = rw (le-ltb x evenMarks (omega arith), le-ltb x taskCount (omega arith), le-ltb x ratedMarks k)
+  at-size k = rw (le-ltb x setMarks (omega arith), le-ltb x twinMarks (omega arith), le-ltb x taskCount k)
 
 -- ---- the grid
 pub grid-filled : (list : TaskList) (m e L : ℕ) (s entries marked ends : List ℕ) → entries ≡ filled s 0 (L * 16) (entryAt list L)
-    → marked ≡ filled entries 16384 marks (markAt (list .n) (list .rates) m e L) → ends ≡ filled marked 16499 L (endMark marked (list .n)) → ends ≡ gridOf list m e L s
+    → marked ≡ filled entries 16384 marks (markAt (list .n) (list .rates) m e L) → ends ≡ filled marked 16475 L (endMark marked (list .n)) → ends ≡ gridOf list m e L s
 unfolding gridOf unmarkedOf
 grid-filled list m e L s entries marked ends eg em ee = rw (ee, em, eg)
 
@@ -202,6 +202,6 @@ module _ (grid : List ℕ) (n t : ℕ) where
   none-ends none = sym (seek-none n _ none)
 
 -- the marks filled in before change none
-pub ends-same : (grid now : List ℕ) (n k t r : ℕ) → n ≤ 16 → t < 1024 → now ≡ filled grid 16499 k (endMark grid n) → r ≡ endMark now n t → r ≡ endMark grid n t
+pub ends-same : (grid now : List ℕ) (n k t r : ℕ) → n ≤ 16 → t < 1024 → now ≡ filled grid 16475 k (endMark grid n) → r ≡ endMark now n t → r ≡ endMark grid n t
 unfolding endMark
-ends-same grid now n k t r ln lt e h = h ∙ seek-same n _ _ (λ v l. ap (λ x. x % 2) (ap (λ b. nth b (t * 16 + v)) e ∙ filled-before grid 16499 k (endMark grid n) (t * 16 + v) (omega arith)))
+ends-same grid now n k t r ln lt e h = h ∙ seek-same n _ _ (λ v l. ap (λ x. x % 2) (ap (λ b. nth b (t * 16 + v)) e ∙ filled-before grid 16475 k (endMark grid n) (t * 16 + v) (omega arith)))

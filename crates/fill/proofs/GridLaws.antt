@@ -2,7 +2,7 @@
 -- Assumes nothing.
 use Prim.Native.Nat.{ℕ, zero, suc, _+_, _*_, _-_, _/_, _%_, _≤_, _<_}
 use native.Mathlib.Omega.{arith}
-use native.Mathlib.Nat.{div-le-self}
+use native.Mathlib.Nat.{div-le-self, zero-add}
 use mathlib.Core.Path.{_≡_, refl, sym, ap, ap₂, subst, _∙_}
 use mathlib.Core.Logic.{_≢_, _⊎_, inl, inr, ⊎-elim}
 use mathlib.Core.Bool.{_&&_}
@@ -27,12 +27,13 @@ use Rattle.tasks.proofs.SoundLaws.{rows-length, rows-task, SoundList, sound-lis
 use Rattle.tasks.proofs.WindowLaws.{job-slot, highest-passes}
 use Rattle.rules.specs.Rules.{evenRates, twin}
 use Rattle.sets.specs.Sets.{has}
-use Rattle.grid.specs.Grid.{coresOn, OnGrid}
+use Rattle.grid.specs.Grid.{coresOn, setsAt, OnGrid}
 use Rattle.grid.specs.GridFor.{Small, entryOf, isQuick, GridFor}
 use Rattle.grid.proofs.GridForLaws.{test-same, counter-le}
-use Rattle.fill.specs.Grid.{Fit, entryFor, entryAt, evenPair, pairEven, rowEven, coresTwin, quickMark, ratedMark, evenMarks, twinMarks, taskCount, coreCount, slotCount, ratedMarks, marks, markAt, endMark, unmarkedOf, gridOf}
-use Rattle.fill.proofs.FillLaws.{test-even, test-twin, size-tasks, size-cores, size-slots, at-rate, at-rule, at-size, at-rated}
-use Rattle.fill.proofs.RatedLaws.{mark-has}
+use Rattle.grid.proofs.ReadLaws.{sets-at}
+use Rattle.fill.specs.Grid.{Fit, entryFor, entryAt, evenPair, pairEven, rowEven, coresTwin, quickMark, taskBits, fourTasks, setMarks, twinMarks, taskCount, coreCount, slotCount, marks, markAt, endMark, unmarkedOf, gridOf}
+use Rattle.fill.proofs.FillLaws.{size-tasks, size-cores, size-slots, at-rate, at-set, at-twin, at-size}
+use Rattle.fill.proofs.BitLaws.{bits-even-has, bits-rated-has, four-lt, four-has}
 
 -- ---- the list's instance
 -- what a sound list has for the grid
@@ -67,26 +68,26 @@ module _ {m : ℕ} (list : TaskList) (s : SoundList m (rows list)) where
 -- ---- reading the grid
 module _ (list : TaskList) (m e L : ℕ) (few : L ≤ 1024) where
   entries : List ℕ
-  entries = filled (replicate 17523 0) 0 (L * 16) (entryAt list L)
+  entries = filled (replicate 17499 0) 0 (L * 16) (entryAt list L)
 
   unmarked : List ℕ
-  unmarked = unmarkedOf list m e L (replicate 17523 0)
+  unmarked = unmarkedOf list m e L (replicate 17499 0)
 
   grid : List ℕ
-  grid = gridOf list m e L (replicate 17523 0)
+  grid = gridOf list m e L (replicate 17499 0)
 
-  entries-length : length entries ≡ 17523
+  entries-length : length entries ≡ 17499
   unfolding entries
-  entries-length = filled-length (replicate 17523 0) 0 (L * 16) (entryAt list L) ∙ length-replicate {A = ℕ} 17523 0
+  entries-length = filled-length (replicate 17499 0) 0 (L * 16) (entryAt list L) ∙ length-replicate {A = ℕ} 17499 0
 
-  unmarked-length : length unmarked ≡ 17523
+  unmarked-length : length unmarked ≡ 17499
   unfolding unmarked unmarkedOf entries
   unmarked-length = filled-length entries 16384 marks (markAt (list .n) (list .rates) m e L) ∙ entries-length
 
   -- below the marks of ends
-  below-ends : (x : ℕ) → x < 16499 → nth grid x ≡ nth unmarked x
+  below-ends : (x : ℕ) → x < 16475 → nth grid x ≡ nth unmarked x
   unfolding grid gridOf unmarked
-  below-ends x l = filled-before unmarked 16499 L (endMark unmarked (list .n)) x l
+  below-ends x l = filled-before unmarked 16475 L (endMark unmarked (list .n)) x l
 
   -- the entries
   at-entry : (x : ℕ) → x < L * 16 → nth grid x ≡ entryAt list L x
@@ -94,7 +95,7 @@ module _ (list : TaskList) (m e L : ℕ) (few : L ≤ 1024) where
   at-entry x l = below-ends x (omega arith)
       ∙ filled-before entries 16384 marks (markAt (list .n) (list .rates) m e L) x (omega arith)
       ∙ ap (nth entries) (omega arith)
-      ∙ filled-at (replicate 17523 0) 0 (L * 16) (entryAt list L) x l (rw (length-replicate {A = ℕ} 17523 0) (omega arith))
+      ∙ filled-at (replicate 17499 0) 0 (L * 16) (entryAt list L) x l (rw (length-replicate {A = ℕ} 17499 0) (omega arith))
 
   -- the marks
   at-mark : (p x : ℕ) → p ≡ 16384 + x → x < marks → nth grid p ≡ markAt (list .n) (list .rates) m e L x
@@ -102,10 +103,10 @@ module _ (list : TaskList) (m e L : ℕ) (few : L ≤ 1024) where
   at-mark p x z l = ap (nth grid) z ∙ below-ends (16384 + x) (omega arith) ∙ filled-at entries 16384 marks (markAt (list .n) (list .rates) m e L) x l (rw entries-length (omega arith))
 
   -- before the mark no entry of the slot is odd
-  at-ends : (t v : ℕ) → t < L → v < list .n → list .n ≤ 16 → v < nth grid (16499 + t) → nth grid (t * 16 + v) % 2 ≡ 0
+  at-ends : (t v : ℕ) → t < L → v < list .n → list .n ≤ 16 → v < nth grid (16475 + t) → nth grid (t * 16 + v) % 2 ≡ 0
   unfolding grid gridOf unmarked endMark
   at-ends t v lt lv ln before = ap (λ x. x % 2) (below-ends (t * 16 + v) (omega arith))
-      ∙ seek-before (list .n) (λ v. nth unmarked (t * 16 + v) % 2) v (omega (arith, filled-at unmarked 16499 L (endMark unmarked (list .n)) t lt (rw unmarked-length (omega arith))))
+      ∙ seek-before (list .n) (λ v. nth unmarked (t * 16 + v) % 2) v (omega (arith, filled-at unmarked 16475 L (endMark unmarked (list .n)) t lt (rw unmarked-length (omega arith))))
 
 -- ---- the list's rates
 -- the rate on a core, in the flat list
@@ -173,17 +174,32 @@ module _ {m : ℕ} (list : TaskList) (s : SoundList m (rows list)) where
 
   module _ (e : ℕ) where
     -- the marks of the list's own table
-    mark-at : (p x : ℕ) → p ≡ 16384 + x → x < marks → nth (gridOf list m e (tableLength (rows list)) (replicate 17523 0)) p ≡ markAt (list .n) (list .rates) m e (tableLength (rows list)) x
+    mark-at : (p x : ℕ) → p ≡ 16384 + x → x < marks → nth (gridOf list m e (tableLength (rows list)) (replicate 17499 0)) p ≡ markAt (list .n) (list .rates) m e (tableLength (rows list)) x
     unfolding grid
     mark-at = at-mark list m e (tableLength (rows list)) (s .few-slots)
 
+    -- the sets that stand in four places, p places behind the first of rule A
+    set-has : (p v c : ℕ) → p ≤ 4 → v < 16 → c < 4
+        → has (setsAt (gridOf list m e (tableLength (rows list)) (replicate 17499 0)) (16448 + p)) v c ≡ has (taskBits e (list .rates) (p * 4 + v)) 0 c
+    set-has p v c lp lv lc =
+        ap (λ w. has (setsAt own (16448 + p)) w c) (omega arith)
+        ∙ sets-at own (16448 + p) (v / 4) (v % 4) c (omega arith) (omega arith) lc (λ k lk. rw (place k lk) (four-lt e (list .rates) (p + k)))
+        ∙ ap (λ s. has s (v % 4) c) (place (v / 4) (omega arith)) ∙ four-has e (list .rates) (p + v / 4) (v % 4) c (omega arith) lc
+        ∙ ap (λ y. has (taskBits e (list .rates) y) 0 c) (omega arith)
+      where
+        own : List ℕ
+        own = gridOf list m e (tableLength (rows list)) (replicate 17499 0)
+
+        place : (k : ℕ) → k < 4 → nth own (16448 + p + k) ≡ fourTasks e (list .rates) (p + k)
+        place k lk = mark-at (16448 + p + k) (setMarks + (p + k)) (omega arith) (omega arith) ∙ at-set _ _ _ _ _ _ (omega arith) (omega arith) ∙ ap (fourTasks e (list .rates)) (omega arith)
+
     -- the grid is ready for the instance
-    pub grid-for : GridFor (ownInstance m (rows list)) e (gridOf list m e (tableLength (rows list)) (replicate 17523 0))
+    pub grid-for : GridFor (ownInstance m (rows list)) e (gridOf list m e (tableLength (rows list)) (replicate 17499 0))
     unfolding grid instanceOf quickMark
     grid-for = record {
-      slots = mark-at 16482 slotCount refl (omega arith) ∙ at-size _ _ _ _ _ slotCount (omega arith) (omega arith) ∙ sym (size-slots _ _ _ slotCount (omega arith) (omega arith));
-      cores = mark-at 16481 coreCount refl (omega arith) ∙ at-size _ _ _ _ _ coreCount (omega arith) (omega arith) ∙ sym (size-cores _ _ _ coreCount refl);
-      tasks = mark-at 16480 taskCount refl (omega arith) ∙ at-size _ _ _ _ _ taskCount (omega arith) (omega arith) ∙ sym (size-tasks _ _ _ taskCount refl) ∙ sym (rows-length list);
+      slots = mark-at 16474 slotCount refl (omega arith) ∙ at-size _ _ _ _ _ slotCount (omega arith) ∙ sym (size-slots _ _ _ slotCount (omega arith) (omega arith));
+      cores = mark-at 16473 coreCount refl (omega arith) ∙ at-size _ _ _ _ _ coreCount (omega arith) ∙ sym (size-cores _ _ _ coreCount refl);
+      tasks = mark-at 16472 taskCount refl (omega arith) ∙ at-size _ _ _ _ _ taskCount (omega arith) ∙ sym (size-tasks _ _ _ taskCount refl) ∙ sym (rows-length list);
       entries = λ t v lt lv. let k = is-task v lv in
           at-entry list m e (tableLength (rows list)) (s .few-slots) (t * 16 + v) (omega (arith, rows-length list, s .few-tasks))
           ∙ entry-is list (tableLength (rows list)) t v (omega (arith, rows-length list, s .few-tasks)) (k .0)
@@ -192,24 +208,21 @@ module _ {m : ℕ} (list : TaskList) (s : SoundList m (rows list)) where
           at-ends list m e (tableLength (rows list)) (s .few-slots) t v lt (is-task v lv .0) (omega (arith, rows-length list, s .few-tasks)) z;
       rates = λ v j lv lj. let few : j < 4 = omega (arith, s .few-cores) in let small : v < 16 = omega (arith, s .few-tasks) in
           mark-at (16384 + (v * 4 + j)) (v * 4 + j) refl (omega arith) ∙ at-rate _ _ _ _ _ _ (omega arith) ∙ rate-same v j lv few;
-      rated = λ v j lv lj. let few : j < 4 = omega (arith, s .few-cores) in let small : v < 16 = omega (arith, s .few-tasks) in
-          ap (λ x. has (x % 16) 0 j) (mark-at (16483 + v) (ratedMarks + v) (omega arith) (omega arith) ∙ at-rated _ _ _ _ _ _ (omega arith) ∙ ap (ratedMark (list .rates)) (omega arith))
-          ∙ mark-has (list .rates) v j few ∙ ap (ltb 0) (rate-same v j lv few);
+      rated = λ v j lv lj. let few : j < 4 = omega (arith, s .few-cores) in
+          set-has 4 v j (omega arith) (omega (arith, s .few-tasks)) few ∙ bits-rated-has e (list .rates) v j few ∙ ap (ltb 0) (rate-same v j lv few);
       evens = λ v lv. let small : v < 16 = omega (arith, s .few-tasks) in
-          mark-at (16448 + v) (evenMarks + v) (omega arith) (omega arith) ∙ at-rule _ _ _ _ _ _ (omega arith) (omega arith)
-          ∙ ap (λ b. gate (isQuick e && b) 1) (test-even _ _ _ (omega arith) ∙ ap (rowEven (list .rates)) (omega arith) ∙ even-same v lv);
+          set-has 0 v 0 (omega arith) small (omega arith) ∙ ap (λ y. has (taskBits e (list .rates) y) 0 0) (zero-add v) ∙ bits-even-has e (list .rates) v small ∙ ap (λ b. isQuick e && b) (even-same v lv);
       twins = λ a j la lj. let few : a < 4 = omega (arith, s .few-cores) in let less : j < 4 = omega arith in let y-same : twinMarks + (a * 4 + j) - twinMarks ≡ a * 4 + j = omega arith in
-          mark-at (16464 + (a * 4 + j)) (twinMarks + (a * 4 + j)) (omega arith) (omega arith) ∙ at-rule _ _ _ _ _ _ (omega arith) (omega arith)
-          ∙ ap (λ b. gate (isQuick e && b) 1) (test-twin _ _ _ (omega arith)
-          ∙ ap (λ y. coresTwin (list .n) (list .rates) (y % 4) (y / 4)) y-same ∙ ap₂ (coresTwin (list .n) (list .rates)) (digits-mod a less) (digits-div a less) ∙ twin-same j a less few);
+          mark-at (16456 + (a * 4 + j)) (twinMarks + (a * 4 + j)) (omega arith) (omega arith) ∙ at-twin _ _ _ _ _ _ (omega arith) (omega arith)
+          ∙ ap (λ b. gate (isQuick e && b) 1) (ap (λ y. coresTwin (list .n) (list .rates) (y % 4) (y / 4)) y-same ∙ ap₂ (coresTwin (list .n) (list .rates)) (digits-mod a less) (digits-div a less) ∙ twin-same j a less few);
     }
 
 -- ---- what the walk asks of a grid that was filled
 module _ (m : ℕ) (list : TaskList) (e L : ℕ) (sound : IsSound m (rows list)) (eL : L ≡ tableLength (rows list))
-    (grid : List ℕ) (eb : grid ≡ gridOf list m e L (replicate 17523 0)) where
+    (grid : List ℕ) (eb : grid ≡ gridOf list m e L (replicate 17499 0)) where
   -- it is the instance's
   pub filled-ready : GridFor (ownInstance m (rows list)) e grid
-  filled-ready = subst (GridFor (ownInstance m (rows list)) e) (sym (eb ∙ ap (λ n. gridOf list m e n (replicate 17523 0)) eL)) (grid-for list (sound-list m (rows list) sound) e)
+  filled-ready = subst (GridFor (ownInstance m (rows list)) e) (sym (eb ∙ ap (λ n. gridOf list m e n (replicate 17499 0)) eL)) (grid-for list (sound-list m (rows list) sound) e)
 
   -- and has a first cell
   pub filled-starts : OnGrid grid 0 × (0 < coresOn grid)

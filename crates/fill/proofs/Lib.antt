@@ -1,4 +1,4 @@
 pub mod FillLaws
-pub mod RatedLaws
+pub mod BitLaws
 pub mod GridLaws
 pub mod Calls

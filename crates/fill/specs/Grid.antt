@@ -11,6 +11,7 @@ use Rattle.tasks.specs.declared.Task.{Task}
 use Rattle.tasks.specs.declared.TaskList.{TaskList}
 use Rattle.tasks.specs.Task.{taskAt}
 use Rattle.tasks.specs.Window.{isOpen, jobAt, lastSlot, Cyclic}
+use Rattle.sets.specs.Sets.{pushed}
 use Rattle.grid.specs.GridFor.{counterOf, closedCounter, isQuick}
 
 -- a task whose windows fit a table of L slots
@@ -61,44 +62,47 @@ ratedMark rates v =
     let bit : ℕ → ℕ = λ j. ratedBit (nth rates (v * 4 + j)) in
     bit 0 + 2 * bit 1 + 4 * bit 2 + 8 * bit 3
 
+-- the bits of task y: 1 for the quick engine if its positive rates are equal; from 16 on, the cores on which task y - 16 has a positive rate
+unfoldable pub taskBits : ℕ → List ℕ → ℕ → ℕ
+taskBits e rates y = cond (ltb y 16) (quickMark e (rowEven rates y)) (ratedMark rates (y - 16))
+
+-- the bits of the four tasks x * 4, .., x * 4 + 3, as sets
+unfoldable pub fourTasks : ℕ → List ℕ → ℕ → ℕ
+fourTasks e rates x =
+    let bits : ℕ → ℕ = λ k. taskBits e rates (x * 4 + k) in
+    pushed (pushed (pushed (bits 3) (bits 2)) (bits 1)) (bits 0)
+
 -- where the parts between the entries and the marks of ends begin, counted from the first of them, the rates
-abbrev pub evenMarks : ℕ
-evenMarks = 64
+abbrev pub setMarks : ℕ
+setMarks = 64
 
 abbrev pub twinMarks : ℕ
-twinMarks = 80
+twinMarks = 72
 
 abbrev pub taskCount : ℕ
-taskCount = 96
+taskCount = 88
 
 abbrev pub coreCount : ℕ
-coreCount = 97
+coreCount = 89
 
 abbrev pub slotCount : ℕ
-slotCount = 98
-
-abbrev pub ratedMarks : ℕ
-ratedMarks = 99
+slotCount = 90
 
 -- and how many places they have
 abbrev pub marks : ℕ
-marks = 115
-
--- the test for the mark at place x: rule A's of a task, and then rule B's of two cores
-unfoldable pub ruleTest : ℕ → List ℕ → ℕ → Bool
-ruleTest n rates x = cond (ltb x twinMarks) (rowEven rates (x - evenMarks)) (coresTwin n rates ((x - twinMarks) % 4) ((x - twinMarks) / 4))
+marks = 91
 
 -- the number at place x: the tasks, the cores, the slots
 unfoldable pub sizeAt : ℕ → ℕ → ℕ → ℕ → ℕ
 sizeAt n m L x = cond (eqb x taskCount) n (cond (eqb x coreCount) m L)
 
--- what stands at place x: the rates, the marks of rules A and B, the three numbers, the cores on which rates are positive
+-- what stands at place x: the rates, the sets of rule A and of positive rates, the marks of rule B, the three numbers
 unfoldable pub markAt : ℕ → List ℕ → ℕ → ℕ → ℕ → ℕ → ℕ
 markAt n rates m e L x =
-    cond (ltb x evenMarks) (nth rates x)
-    (cond (ltb x taskCount) (quickMark e (ruleTest n rates x))
-    (cond (ltb x ratedMarks) (sizeAt n m L x)
-    (ratedMark rates (x - ratedMarks))))
+    cond (ltb x setMarks) (nth rates x)
+    (cond (ltb x twinMarks) (fourTasks e rates (x - setMarks))
+    (cond (ltb x taskCount) (quickMark e (coresTwin n rates ((x - twinMarks) % 4) ((x - twinMarks) / 4)))
+    (sizeAt n m L x)))
 
 -- the first task whose job has its highest-numbered slot in this slot, by its entry; n if there is none
 unfoldable pub endMark : List ℕ → ℕ → ℕ → ℕ
@@ -110,4 +114,4 @@ unmarkedOf list m e L s = filled (filled s 0 (L * 16) (entryAt list L)) 16384 ma
 
 -- the whole grid
 unfoldable pub gridOf : TaskList → ℕ → ℕ → ℕ → List ℕ → List ℕ
-gridOf list m e L s = filled (unmarkedOf list m e L s) 16499 L (endMark (unmarkedOf list m e L s) (list .n))
+gridOf list m e L s = filled (unmarkedOf list m e L s) 16475 L (endMark (unmarkedOf list m e L s) (list .n))

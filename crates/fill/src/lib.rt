@@ -3,11 +3,10 @@ ghost use mathlib.Core.Path.{_≡_};
 ghost use Prim.Native.Nat.{ℕ, suc, _*_, _≤_, _<_, _/_, _%_};
 ghost use Rattle.laws.specs.Lists.{filled};
 ghost use Rattle.tasks.specs.Task.{taskAt};
-ghost use Rattle.fill.specs.Grid.{Fit, entryFor, entryAt, evenPair, pairEven, rowEven, coresTwin, quickMark, ratedBit, ratedMark, ruleTest, sizeAt, markAt, endMark, gridOf};
+ghost use Rattle.fill.specs.Grid.{Fit, entryFor, entryAt, evenPair, pairEven, rowEven, coresTwin, quickMark, ratedBit, ratedMark, taskBits, fourTasks, sizeAt, markAt, endMark, gridOf};
 use grid::CORES_AT;
 use grid::ENDS_AT;
 use grid::EVEN_AT;
-use grid::RATED_AT;
 use grid::RATES_AT;
 use grid::TASKS_AT;
 use grid::TWINS_AT;
@@ -20,15 +19,13 @@ use windows::Window;
 const CLOSED: u16 = 32768;
 
 // Where the parts between the entries and the marks of ends begin, counted from the first of them, the rates.
-const EVEN_MARKS: usize = EVEN_AT - RATES_AT;
+const SET_MARKS: usize = EVEN_AT - RATES_AT;
 
 const TWIN_MARKS: usize = TWINS_AT - RATES_AT;
 
 const TASK_COUNT: usize = TASKS_AT - RATES_AT;
 
 const CORE_COUNT: usize = CORES_AT - RATES_AT;
-
-const RATED_MARKS: usize = RATED_AT - RATES_AT;
 
 // And how many places they have.
 const MARKS: usize = ENDS_AT - RATES_AT;
@@ -72,7 +69,7 @@ fn entry_at(list: TaskList, len: Slots, x: usize) -> u16
 }
 
 // The entries, slot by slot.
-fn fill_entries(grid: &mut [u16; 17523], list: TaskList, len: Slots)
+fn fill_entries(grid: &mut [u16; 17499], list: TaskList, len: Slots)
     requires { ⌜ (list .n ≤ 16) × (len .0 ≤ 1024) × ((k : ℕ) → k < list .n → Fit (len .0) (taskAt list k)) ⌝ }
     ensures { λ _. ⌜ now (grid .exit) ≡ filled (now (grid .entry)) 0 (len .0 * 16) (entryAt list (len .0)) ⌝ }
 {
@@ -171,16 +168,30 @@ fn rated_mark(rates: [u8; 64], v: usize) -> u16
         + 8 * rated_bit(rates[k + 3])
 }
 
-// The test for the mark at place x: rule A's of a task, and then rule B's of two cores.
-fn rule_test(n: u8, rates: [u8; 64], x: usize) -> bool
-    requires { ⌜ (n ≤ 16) × (64 ≤ x) × (x < 96) ⌝ }
-    ensures { λ r. ⌜ r ≡ ruleTest n rates x ⌝ }
+// The bits of task y: 1 for the quick engine if its positive rates are equal; from 16 on, the cores on which task y - 16 has a
+// positive rate.
+fn task_bits(rates: [u8; 64], engine: u8, y: usize) -> u16
+    requires { ⌜ y < 32 ⌝ }
+    ensures { λ r. ⌜ (r ≡ taskBits engine rates y) × (r < 16) ⌝ }
 {
-    if x < TWIN_MARKS {
-        even_rates(rates, x - EVEN_MARKS)
+    if y < 16 {
+        quick_mark(engine, even_rates(rates, y))
     } else {
-        twin_cores(n as usize, rates, x - TWIN_MARKS)
+        rated_mark(rates, y - 16)
     }
+}
+
+// The bits of the four tasks x * 4, .., x * 4 + 3, as sets.
+fn four_tasks(rates: [u8; 64], engine: u8, x: usize) -> u16
+    requires { ⌜ x < 8 ⌝ }
+    ensures { λ r. ⌜ r ≡ fourTasks engine rates x ⌝ }
+{
+    let y = x * 4;
+    let first = task_bits(rates, engine, y);
+    let second = task_bits(rates, engine, y + 1);
+    let third = task_bits(rates, engine, y + 2);
+    let fourth = task_bits(rates, engine, y + 3);
+    ((fourth * 16 + third) * 16 + second) * 16 + first
 }
 
 // The number at place x: the tasks, the cores, the slots.
@@ -198,25 +209,25 @@ fn size(n: u8, m: u8, slots: u16, x: usize) -> u16
 
 // What stands x places behind the first rate.
 fn mark(n: u8, rates: [u8; 64], m: u8, engine: u8, slots: u16, x: usize) -> u16
-    requires { ⌜ (n ≤ 16) × (x < 115) ⌝ }
+    requires { ⌜ (n ≤ 16) × (x < 91) ⌝ }
     ensures { λ r. ⌜ r ≡ markAt n rates m engine slots x ⌝ }
 {
-    if x < EVEN_MARKS {
+    if x < SET_MARKS {
         return rate_entry(rates[x]);
     }
+    if x < TWIN_MARKS {
+        return four_tasks(rates, engine, x - SET_MARKS);
+    }
     if x < TASK_COUNT {
-        return quick_mark(engine, rule_test(n, rates, x));
+        return quick_mark(engine, twin_cores(n as usize, rates, x - TWIN_MARKS));
     }
-    if x < RATED_MARKS {
-        return size(n, m, slots, x);
-    }
-    rated_mark(rates, x - RATED_MARKS)
+    size(n, m, slots, x)
 }
 
 // The marks, behind the entries.
-fn fill_marks(grid: &mut [u16; 17523], n: u8, rates: [u8; 64], m: u8, engine: u8, slots: u16)
+fn fill_marks(grid: &mut [u16; 17499], n: u8, rates: [u8; 64], m: u8, engine: u8, slots: u16)
     requires { ⌜ n ≤ 16 ⌝ }
-    ensures { λ _. ⌜ now (grid .exit) ≡ filled (now (grid .entry)) 16384 115 (markAt n rates m engine slots) ⌝ }
+    ensures { λ _. ⌜ now (grid .exit) ≡ filled (now (grid .entry)) 16384 91 (markAt n rates m engine slots) ⌝ }
 {
     let mut x: usize = 0;
     while x < MARKS {
@@ -226,7 +237,7 @@ fn fill_marks(grid: &mut [u16; 17523], n: u8, rates: [u8; 64], m: u8, engine: u8
 }
 
 // The first task whose job has its highest-numbered slot in this slot, by its entry; n if there is none.
-fn end_mark(grid: &[u16; 17523], n: usize, slot: usize) -> u16
+fn end_mark(grid: &[u16; 17499], n: usize, slot: usize) -> u16
     requires { ⌜ (n ≤ 16) × (slot < 1024) ⌝ }
     ensures { λ r. ⌜ r ≡ endMark (now (grid .entry)) n slot ⌝ }
 {
@@ -241,9 +252,9 @@ fn end_mark(grid: &[u16; 17523], n: usize, slot: usize) -> u16
 }
 
 // The marks of the slots in which jobs end, by the entries.
-fn fill_ends(grid: &mut [u16; 17523], n: usize, slots: usize)
+fn fill_ends(grid: &mut [u16; 17499], n: usize, slots: usize)
     requires { ⌜ (n ≤ 16) × (slots ≤ 1024) ⌝ }
-    ensures { λ _. ⌜ now (grid .exit) ≡ filled (now (grid .entry)) 16499 slots (endMark (now (grid .entry)) n) ⌝ }
+    ensures { λ _. ⌜ now (grid .exit) ≡ filled (now (grid .entry)) 16475 slots (endMark (now (grid .entry)) n) ⌝ }
 {
     let mut slot: usize = 0;
     while slot < slots {
@@ -254,7 +265,7 @@ fn fill_ends(grid: &mut [u16; 17523], n: usize, slots: usize)
 }
 
 // The whole grid.
-pub fn fill_grid(grid: &mut [u16; 17523], list: TaskList, m: u8, engine: u8, len: Slots)
+pub fn fill_grid(grid: &mut [u16; 17499], list: TaskList, m: u8, engine: u8, len: Slots)
     requires { ⌜ (list .n ≤ 16) × (len .0 ≤ 1024) × ((k : ℕ) → k < list .n → Fit (len .0) (taskAt list k)) ⌝ }
     ensures { λ _. ⌜ now (grid .exit) ≡ gridOf list m engine (len .0) (now (grid .entry)) ⌝ }
 {

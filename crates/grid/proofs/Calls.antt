@@ -6,13 +6,16 @@ use mathlib.Core.Bool.{Bool}
 use mathlib.Core.List.{List}
 use denote.Ref.{now}
 use Rattle.laws.proofs.Only.{Says, only}
-use Rattle.grid.specs.Grid.{counterOn, rateOn, setsOn, floorOn, allSettledOn}
+use Rattle.grid.specs.Grid.{counterOn, rateOn, setsOn, barsIdle, floorOn, firstDueOn, dueOn, starves}
 use Rattle.grid.proofs.wide as wide
 use Rattle.grid.proofs.counter as counter
 use Rattle.grid.proofs.rate as rate
 use Rattle.grid.proofs.enter as enter
 use Rattle.grid.proofs.floor as floor
-use Rattle.grid.proofs.all_settled as all-settled
+use Rattle.grid.proofs.bars_idle as bars-idle
+use Rattle.grid.proofs.first_due as first-due
+use Rattle.grid.proofs.due as due-one
+use Rattle.grid.proofs.starves as starves-all
 
 -- ---- wide
 abbrev pub Wide : ℕ → ℕ → Type 0
@@ -68,13 +71,45 @@ floor-says κs grid table first core grid′ table′ first′ core′ r M 𝓤 
 pub floor-only : (grid t : List ℕ) (first core r r′ : ℕ) → Floor grid t first core r → Floor grid t first core r′ → r ≡ r′
 floor-only grid t first core r r′ = only
 
--- ---- all_settled
-abbrev pub AllSettled : List ℕ → List ℕ → ℕ → Bool → Type 0
-AllSettled grid l slot r = r ≡ allSettledOn grid l slot
+-- ---- bars_idle
+abbrev pub BarsIdle : List ℕ → ℕ → ℕ → Bool → Type 0
+BarsIdle grid sets core r = r ≡ barsIdle grid sets core
 
-all-settled-says : (κs grid left slot grid′ left′ slot′ r : _)
-    → Says (λ M 𝓤 H A mem run. all-settled.ensures-1 𝓤 H κs A mem run grid left slot grid′ left′ slot′ r) (AllSettled (now (grid′ .entry)) (now (left′ .entry)) slot r)
-all-settled-says κs grid left slot grid′ left′ slot′ r M 𝓤 H A mem run = refl
+bars-idle-says : (κs grid sets core grid′ sets′ core′ r : _)
+    → Says (λ M 𝓤 H A mem run. bars-idle.ensures-1 𝓤 H κs A mem run grid sets core grid′ sets′ core′ r) (BarsIdle (now (grid′ .entry)) sets core r)
+bars-idle-says κs grid sets core grid′ sets′ core′ r M 𝓤 H A mem run = refl
 
-pub all-settled-only : (grid l : List ℕ) (slot : ℕ) (r r′ : Bool) → AllSettled grid l slot r → AllSettled grid l slot r′ → r ≡ r′
-all-settled-only grid l slot r r′ = only
+pub bars-idle-only : (grid : List ℕ) (sets core : ℕ) (r r′ : Bool) → BarsIdle grid sets core r → BarsIdle grid sets core r′ → r ≡ r′
+bars-idle-only grid sets core r r′ = only
+
+-- ---- first_due
+abbrev pub FirstDue : List ℕ → List ℕ → ℕ → ℕ → Type 0
+FirstDue grid l slot r = r ≡ firstDueOn grid l slot
+
+first-due-says : (κs grid left slot grid′ left′ slot′ r : _)
+    → Says (λ M 𝓤 H A mem run. first-due.ensures-1 𝓤 H κs A mem run grid left slot grid′ left′ slot′ r) (FirstDue (now (grid′ .entry)) (now (left′ .entry)) slot r)
+first-due-says κs grid left slot grid′ left′ slot′ r M 𝓤 H A mem run = refl
+
+pub first-due-only : (grid l : List ℕ) (slot r r′ : ℕ) → FirstDue grid l slot r → FirstDue grid l slot r′ → r ≡ r′
+first-due-only grid l slot r r′ = only
+
+-- ---- due
+abbrev pub Due : List ℕ → List ℕ → ℕ → ℕ → ℕ → Type 0
+Due grid l slot core r = r ≡ dueOn grid l slot core
+
+due-says : (κs grid left slot core grid′ left′ slot′ core′ r : _)
+    → Says (λ M 𝓤 H A mem run. due-one.ensures-1 𝓤 H κs A mem run grid left slot core grid′ left′ slot′ core′ r) (Due (now (grid′ .entry)) (now (left′ .entry)) slot core r)
+due-says κs grid left slot core grid′ left′ slot′ core′ r M 𝓤 H A mem run = refl
+
+pub due-only : (grid l : List ℕ) (slot core r r′ : ℕ) → Due grid l slot core r → Due grid l slot core r′ → r ≡ r′
+due-only grid l slot core r r′ = only
+
+-- ---- starves
+abbrev pub Starves : ℕ → ℕ → Bool → Type 0
+Starves due counter r = r ≡ starves due counter
+
+starves-says : (κs due counter due′ counter′ r : _) → Says (λ M 𝓤 H A mem run. starves-all.ensures-1 𝓤 H κs A mem run due counter due′ counter′ r) (Starves due counter r)
+starves-says κs due counter due′ counter′ r M 𝓤 H A mem run = refl
+
+pub starves-only : (due counter : ℕ) (r r′ : Bool) → Starves due counter r → Starves due counter r′ → r ≡ r′
+starves-only due counter r r′ = only

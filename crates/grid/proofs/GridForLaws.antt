@@ -4,10 +4,10 @@ use Prim.Native.Nat.{ℕ, suc, _+_, _*_, _-_, _/_, _%_, _≤_, _<_}
 use native.Mathlib.Omega.{arith}
 use native.Mathlib.Numerals.{add-one}
 use native.Mathlib.Decide.{ℕ-discrete}
-use native.Mathlib.Nat.{zero-add, suc-inj, eq-of-mul-eq-mul-right, mul-mod-left}
-use mathlib.Core.Path.{_≡_, refl, sym, ap, ap₂, _∙_}
-use mathlib.Core.Logic.{_≢_}
-use mathlib.Core.Bool.{Bool, true, false, cond, not, _&&_}
+use native.Mathlib.Nat.{suc-inj, eq-of-mul-eq-mul-right, mul-mod-left}
+use mathlib.Core.Path.{_≡_, refl, sym, ap, ap₂, subst, _∙_}
+use mathlib.Core.Logic.{_≢_, ⊎-elim}
+use mathlib.Core.Bool.{Bool, true, false, cond, not, _&&_, and-false}
 use mathlib.Core.List.{List, [], _∷_}
 use lib.Arith.{digits-div, digits-mod}
 use lib.Dec.{T, leb, ltb, eqb, ltb→lt, eqb→eq, T-not}
@@ -17,19 +17,19 @@ use borrow.Author.Tests.{leb-false, le-leb, eq-eqb, ne-eqb}
 use Rattle.laws.specs.Sum.{gate, sum}
 use Rattle.laws.specs.Tests.{every, all, imp}
 use Rattle.laws.specs.Lists.{nth}
-use Rattle.laws.proofs.SumLaws.{gate-le}
+use Rattle.laws.proofs.SumLaws.{gate-le, lt-or-ge}
 use Rattle.laws.proofs.TestLaws.{both, make-both, every-holds, holds-every, all-at, at-all, all-same, all-true, imp-use, imp-make}
 use Rattle.tasks.specs.Instance.{Instance, jobEnd}
 use Rattle.table.specs.Table.{slotOf, coreOf, beside, share, done, workLeft, free}
 use Rattle.table.proofs.JobLaws.{slot-job}
 use Rattle.table.proofs.TableLaws.{beside-before, done-same}
 use Rattle.table.proofs.ShareLaws.{share-none, share-own}
-use Rattle.rules.specs.Rules.{tests, permitted, settled, allSettled}
-use Rattle.sets.specs.Sets.{has, without}
-use Rattle.sets.proofs.SetLaws.{none-has, without-has}
-use Rattle.grid.specs.Grid.{entryOn, endsOn, rateOn, tasksOn, counterOn, ratedOn, ableOn, setsOn, settledOn, allSettledOn}
-use Rattle.grid.specs.GridFor.{Small, counterOf, closedCounter, entryOf, GridFor, Lefts}
-use Rattle.grid.proofs.ReadLaws.{sets-has}
+use Rattle.rules.specs.Rules.{tests, permitted, settled, allSettled, evenRates}
+use Rattle.sets.specs.Sets.{has, ofCore, without}
+use Rattle.sets.proofs.SetLaws.{of-core-has, of-core-alone, of-core-lt, without-has, common-none}
+use Rattle.grid.specs.Grid.{entryOn, endsOn, rateOn, evensOn, counterOn, setsOn, barsIdle, settledOn, allSettledOn}
+use Rattle.grid.specs.GridFor.{Small, counterOf, closedCounter, entryOf, isQuick, GridFor, Lefts}
+use Rattle.grid.proofs.ReadLaws.{sets-has, sets-none}
 
 -- two tests that pass together are the same
 pub test-same : (a b : Bool) → (T a → T b) → (T b → T a) → a ≡ b
@@ -37,6 +37,12 @@ test-same true true f g = refl
 test-same true false f g = absurd (f tt)
 test-same false true f g = absurd (g tt)
 test-same false false f g = refl
+
+-- tests from m on that pass
+all-fewer : (n m : ℕ) (f g : ℕ → Bool) → m ≤ n → ((v : ℕ) → v < m → f v ≡ g v) → ((v : ℕ) → m ≤ v → v < n → f v ≡ true) → all n f ≡ all m g
+all-fewer n m f g l same pass = test-same (all n f) (all m g)
+    (λ h. at-all m g (λ v lv. subst T (same v lv) (all-at n f h v (omega arith))))
+    (λ h. at-all n f (λ v lv. ⊎-elim (λ k. subst T (sym (same v k)) (all-at m g h v k)) (λ k. subst T (sym (pass v k lv)) tt) (lt-or-ge v m)))
 
 -- ---- the entries of the grid
 module _ (P : Instance) (i t : ℕ) where
@@ -70,12 +76,6 @@ unfolding gate
 gate-pass true h = refl
 gate-pass false h = absurd h
 
--- bits that a test lets through
-gate-has : (b : Bool) (s j : ℕ) → has (gate b s) 0 j ≡ b && has s 0 j
-unfolding gate
-gate-has true s j = refl
-gate-has false s j = none-has 0 j
-
 -- a test that passes or does not
 pub test-cases : {A : Type 0} (b : Bool) → (T b → A) → ((T b → ⊥) → A) → A
 test-cases true f g = f tt
@@ -90,6 +90,7 @@ may-tests P slot c f v j =
 -- the sets have the tasks that may stand on the cores from `core` on
 pub record Sets (P : Instance) (slot core c : ℕ) (f : ℕ → ℕ) (sets : ℕ) : Type 0 where
   pub may : (v j : ℕ) → v < P .tasks → core ≤ j → j < P .cores → has sets v j ≡ every (may-tests P slot c f v j)
+  pub only : (v j : ℕ) → P .tasks ≤ v → j < P .cores → has sets v j ≡ false
 
 -- the same for the same cells before c
 pub sets-same : {P : Instance} {slot core c : ℕ} {f g : ℕ → ℕ} {sets : ℕ} → ((d : ℕ) → d < c → f d ≡ g d) → Sets P slot core c f sets → Sets P slot core c g sets
@@ -97,6 +98,7 @@ unfolding free
 sets-same {P} {slot} {c = c} {f} {g} h holds = record {
   may = λ v j lv lo hi. holds .may v j lv lo hi
       ∙ ap₂ (λ a b. every (P .opens (suc v) slot ∷ ltb 0 (P .rate (suc v) j) ∷ a ∷ ltb 0 (P .work (suc v) - b) ∷ [])) (free-same (suc v)) (done-same P c f g h (suc v) (P .job (suc v) slot));
+  only = holds .only;
 }
   where
     free-same : (i : ℕ) → free P c f i ≡ free P c g i
@@ -201,6 +203,26 @@ module _ {P : Instance} {e : ℕ} {grid : List ℕ} (small : Small P) (ready : G
     pub permitted-is : {sets : ℕ} (f : ℕ → ℕ) → Sets P slot core (first + core) f sets → (v : ℕ) → v < P .tasks → has sets v core ≡ permitted P (first + core) f (suc v)
     unfolding permitted tests
     permitted-is f holds v lv = holds .may v core lv (omega arith) lc ∙ sym (rw (slot-is, core-is, le-leb (suc v) (P .tasks) lv))
+
+    -- rule A bars idle exactly if a task in the core's set has equal positive rates
+    pub bars-is : {sets : ℕ} {f : ℕ → ℕ} → Sets P slot core (first + core) f sets
+        → barsIdle grid sets core ≡ not (all (P .tasks) (λ v. imp (has sets v core) (not (isQuick e && evenRates P (suc v)))))
+    unfolding barsIdle
+    bars-is {sets} holds = ap not (common-none (ofCore sets core) (evensOn grid) (of-core-lt sets core) (of-core-alone sets core)
+        ∙ all-fewer 16 (P .tasks) (λ v. not (has (ofCore sets core) v 0 && has (evensOn grid) v 0)) (λ v. imp (has sets v core) (not (isQuick e && evenRates P (suc v)))) (small .few-tasks) inside outside)
+      where
+        in-core : (v : ℕ) → v < 16 → has (ofCore sets core) v 0 ≡ has sets v core
+        in-core v l = of-core-has sets core v (omega (arith, small .few-cores)) l
+
+        not-both : (a b : Bool) → not (a && b) ≡ imp a (not b)
+        not-both true b = refl
+        not-both false b = refl
+
+        inside : (v : ℕ) → v < P .tasks → not (has (ofCore sets core) v 0 && has (evensOn grid) v 0) ≡ imp (has sets v core) (not (isQuick e && evenRates P (suc v)))
+        inside v l = ap₂ (λ a b. not (a && b)) (in-core v (omega (arith, small .few-tasks))) (ready .evens v l) ∙ not-both (has sets v core) (isQuick e && evenRates P (suc v))
+
+        outside : (v : ℕ) → P .tasks ≤ v → v < 16 → not (has (ofCore sets core) v 0 && has (evensOn grid) v 0) ≡ true
+        outside v k l = ap (λ a. not (a && has (evensOn grid) v 0)) (in-core v l ∙ holds .only v core k lc)
 
     -- it is open
     pub open-tells : {sets : ℕ} (f : ℕ → ℕ) → Sets P slot core (first + core) f sets → (v : ℕ) → v < P .tasks → has sets v core ≡ true → T (P .opens (suc v) slot)
@@ -308,7 +330,10 @@ module _ {P : Instance} {e : ℕ} {grid : List ℕ} (small : Small P) (ready : G
     module _ (t : List ℕ) (room : first + core < length t) {sets : ℕ} (holds : Sets P slot core (first + core) (nth t) sets) where
       -- idle leaves the sets as they are
       pub sets-idle : Sets P slot (core + 1) (suc (first + core)) (nth (set t (first + core) 0)) sets
-      sets-idle = record { may = λ v j lv lo hi. holds .may v j lv (omega arith) hi ∙ sym (may-other t 0 room (omega arith) v j (λ z. omega arith)) }
+      sets-idle = record {
+        may = λ v j lv lo hi. holds .may v j lv (omega arith) hi ∙ sym (may-other t 0 room (omega arith) v j (λ z. omega arith));
+        only = holds .only;
+      }
 
       -- a task goes out of them
       pub sets-put : (x : ℕ) → x < 16 → Sets P slot (core + 1) (suc (first + core)) (nth (set t (first + core) (x + 1))) (without sets x)
@@ -317,17 +342,17 @@ module _ {P : Instance} {e : ℕ} {grid : List ℕ} (small : Small P) (ready : G
           | yes q ↦ rw (eq-eqb v x q) (sym (may-own t (x + 1) room (omega arith) v j (omega arith)))
           | no y ↦ rw (ne-eqb v x y) (holds .may v j lv (omega arith) hi ∙ sym (may-other t (x + 1) room (omega arith) v j (λ z. y (omega arith))))
         ];
+        only = λ v j h lj. without-has sets x v j lx (omega (arith, small .few-cores)) ∙ ap (λ b. not (eqb v x) && b) (holds .only v j h lj) ∙ and-false (not (eqb v x));
       }
 
   -- ---- the sets at the start of a slot
   pub sets-start : {first slot : ℕ} → first ≡ slot * P .cores → slot < P .slots → (t l : List ℕ) → Lefts P first (nth t) l → Sets P slot 0 first (nth t) (setsOn grid l slot)
   unfolding free
   sets-start {first} {slot} ef ls t l lefts = record {
-    may = λ v j lv _ lj. sets-has grid l slot (tasksOn grid) 0 v j (rw (ready .tasks) lv) (omega (arith, small .few-cores))
-        ∙ ap (λ x. has (ableOn grid x (nth l (counterOn grid slot x))) 0 j) (zero-add v)
-        ∙ gate-has (ltb 0 (nth l (counterOn grid slot v))) (ratedOn grid v) j
+    may = λ v j lv _ lj. sets-has grid l slot v j (rw (ready .tasks) lv) (omega (arith, small .few-cores))
         ∙ ap (λ b. ltb 0 (nth l (counterOn grid slot v)) && b) (ready .rated v j lv lj)
         ∙ is-able v j lv;
+    only = λ v j h _. sets-none grid l slot v j (rw (ready .tasks) h);
   }
     where
       core-zero : coreOf P first ≡ 0

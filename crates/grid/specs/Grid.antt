@@ -1,14 +1,14 @@
 -- What stands on the grid, whose parts are drawn at the head of src/lib.rt, and what the walk reads there with the table and the work left.
 -- Assumes nothing.
-use Prim.Native.Nat.{ℕ, zero, suc, _+_, _*_, _/_, _%_, _≤_, _<_, max}
-use mathlib.Core.Bool.{Bool, not}
+use Prim.Native.Nat.{ℕ, zero, suc, _+_, _*_, _-_, _/_, _%_, _≤_, _<_, max}
+use mathlib.Core.Bool.{Bool, not, cond, _&&_}
 use mathlib.Core.List.{List}
 use lib.Dec.{leb, ltb, eqb}
 use Rattle.laws.specs.Sum.{gate}
 use Rattle.laws.specs.Tests.{all, imp}
 use Rattle.laws.specs.Lists.{nth}
 use Rattle.laws.specs.Order.{rankOf}
-use Rattle.sets.specs.Sets.{pushed}
+use Rattle.sets.specs.Sets.{ofCore, pushed, common, onCores}
 
 -- the largest of g 0, .., g (n - 1), or 0
 unfoldable pub most : ℕ → (ℕ → ℕ) → ℕ
@@ -23,25 +23,33 @@ entryOn grid slot v = nth grid (slot * 16 + v)
 abbrev pub rateOn : List ℕ → ℕ → ℕ → ℕ
 rateOn grid v core = nth grid (16384 + (v * 4 + core))
 
--- rule A's mark: 1 for the quick engine if all positive rates of task v are equal, else 0
-abbrev pub evenOn : List ℕ → ℕ → ℕ
-evenOn grid v = nth grid (16448 + v)
+-- the sets that stand in the four places from x on, of four tasks each
+unfoldable pub setsAt : List ℕ → ℕ → ℕ
+setsAt grid x = nth grid x + nth grid (x + 1) * 65536 + nth grid (x + 2) * 4294967296 + nth grid (x + 3) * 281474976710656
+
+-- rule A's set: for the quick engine the tasks whose positive rates are equal, on core 0 alone
+abbrev pub evensOn : List ℕ → ℕ
+evensOn grid = setsAt grid 16448
+
+-- the sets of the tasks whose rate on a core is positive
+abbrev pub ratedOn : List ℕ → ℕ
+ratedOn grid = setsAt grid 16452
 
 -- rule B's mark: not 0 for the quick engine if the core and core j are twins
 abbrev pub twinOn : List ℕ → ℕ → ℕ → ℕ
-twinOn grid core j = nth grid (16464 + (core * 4 + j))
+twinOn grid core j = nth grid (16456 + (core * 4 + j))
 
 -- the number of tasks
 abbrev pub tasksOn : List ℕ → ℕ
-tasksOn grid = nth grid 16480
+tasksOn grid = nth grid 16472
 
 -- the number of cores
 abbrev pub coresOn : List ℕ → ℕ
-coresOn grid = nth grid 16481
+coresOn grid = nth grid 16473
 
 -- the table's length
 abbrev pub slotsOn : List ℕ → ℕ
-slotsOn grid = nth grid 16482
+slotsOn grid = nth grid 16474
 
 -- the number of the table's cells
 abbrev pub cellsOn : List ℕ → ℕ
@@ -51,22 +59,18 @@ cellsOn grid = slotsOn grid * coresOn grid
 abbrev pub counterOn : List ℕ → ℕ → ℕ → ℕ
 counterOn grid slot v = entryOn grid slot v / 2
 
--- the cores, as bits, on which task v has a positive rate
-abbrev pub ratedOn : List ℕ → ℕ → ℕ
-ratedOn grid v = nth grid (16483 + v) % 16
+-- the tasks v, v + 1, .., j of them, that have work left in the slot, on core 0 alone
+unfoldable pub leftFrom : List ℕ → List ℕ → ℕ → ℕ → ℕ → ℕ
+leftFrom grid l slot zero v = 0
+leftFrom grid l slot (suc j) v = pushed (leftFrom grid l slot j (suc v)) (gate (ltb 0 (nth l (counterOn grid slot v))) 1)
 
--- the same, if there is work
-abbrev pub ableOn : List ℕ → ℕ → ℕ → ℕ
-ableOn grid v w = gate (ltb 0 w) (ratedOn grid v)
+-- the sets of all tasks that have work left in the slot, on the cores where their rate is positive
+unfoldable pub setsOn : List ℕ → List ℕ → ℕ → ℕ
+setsOn grid l slot = common (onCores (leftFrom grid l slot (tasksOn grid) 0)) (ratedOn grid)
 
--- the sets of the tasks v, v + 1, .., j of them, that have work left in the slot, on the cores where their rate is positive
-unfoldable pub setsFrom : List ℕ → List ℕ → ℕ → ℕ → ℕ → ℕ
-setsFrom grid l slot zero v = 0
-setsFrom grid l slot (suc j) v = pushed (setsFrom grid l slot j (suc v)) (ableOn grid v (nth l (counterOn grid slot v)))
-
--- the same of all tasks
-abbrev pub setsOn : List ℕ → List ℕ → ℕ → ℕ
-setsOn grid l slot = setsFrom grid l slot (tasksOn grid) 0
+-- rule A bars idle on a core: a task of the core's set has equal positive rates
+unfoldable pub barsIdle : List ℕ → ℕ → ℕ → Bool
+barsIdle grid sets core = not (eqb (common (ofCore sets core) (evensOn grid)) 0)
 
 -- the rank of the value on core j of the slot, if that is an earlier twin; else 0
 unfoldable pub twinRankOn : List ℕ → List ℕ → ℕ → ℕ → ℕ → ℕ
@@ -82,11 +86,32 @@ settledOn grid l slot v = imp (not (eqb (entryOn grid slot v % 2) 0)) (eqb (nth 
 
 -- the slot's mark: the task with which the look at its jobs begins, since no task before it has a job that ends here (`GridFor`)
 abbrev pub endsOn : List ℕ → ℕ → ℕ
-endsOn grid slot = nth grid (16499 + slot)
+endsOn grid slot = nth grid (16475 + slot)
 
 -- each job whose highest-numbered slot this is has no work left
 unfoldable pub allSettledOn : List ℕ → List ℕ → ℕ → Bool
 allSettledOn grid l slot = all (tasksOn grid) (λ v. imp (leb (endsOn grid slot) v) (settledOn grid l slot v))
+
+-- the counter of no job
+abbrev pub noneDue : ℕ
+noneDue = 65536
+
+-- the counter of the first job of the tasks v, v + 1, .., j of them, that has its highest-numbered slot here and work left, if there is one
+unfoldable pub dueFrom : List ℕ → List ℕ → ℕ → ℕ → ℕ → ℕ
+dueFrom grid l slot zero v = noneDue
+dueFrom grid l slot (suc j) v = cond (settledOn grid l slot v) (dueFrom grid l slot j (suc v)) (counterOn grid slot v)
+
+-- the same of all tasks from the slot's mark on
+unfoldable pub firstDueOn : List ℕ → List ℕ → ℕ → ℕ
+firstDueOn grid l slot = dueFrom grid l slot (tasksOn grid - endsOn grid slot) (endsOn grid slot)
+
+-- the same on the slot's last core; none on the others
+unfoldable pub dueOn : List ℕ → List ℕ → ℕ → ℕ → ℕ
+dueOn grid l slot core = cond (ltb (core + 1) (coresOn grid)) noneDue (firstDueOn grid l slot)
+
+-- a job is due, and it is not that of counter k
+unfoldable pub starves : ℕ → ℕ → Bool
+starves due k = not (eqb due noneDue) && not (eqb due k)
 
 -- a grid of at most 16 tasks, 4 cores and 1024 slots, each of whose entries has one of the 16385 counters of work left, and one of its slots
 pub record OnGrid (grid : List ℕ) (slot : ℕ) : Type 0 where

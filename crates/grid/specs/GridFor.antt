@@ -12,7 +12,7 @@ use Rattle.tasks.specs.Instance.{Instance, jobSlot, jobEnd, Regular}
 use Rattle.table.specs.Table.{workLeft}
 use Rattle.rules.specs.Rules.{evenRates, twin}
 use Rattle.sets.specs.Sets.{has}
-use Rattle.grid.specs.Grid.{entryOn, endsOn, rateOn, ratedOn, evenOn, twinOn, tasksOn, coresOn, slotsOn}
+use Rattle.grid.specs.Grid.{entryOn, endsOn, rateOn, ratedOn, evensOn, twinOn, tasksOn, coresOn, slotsOn}
 
 -- an instance that the arrays can hold, each of whose jobs has a slot
 pub record Small (P : Instance) : Type 0 where
@@ -48,8 +48,8 @@ pub record GridFor (P : Instance) (e : ℕ) (grid : List ℕ) : Type 0 where
   pub entries : (t v : ℕ) → t < P .slots → v < P .tasks → entryOn grid t v ≡ entryOf P (suc v) t
   pub ends : (t v : ℕ) → t < P .slots → v < P .tasks → v < endsOn grid t → entryOn grid t v % 2 ≡ 0
   pub rates : (v j : ℕ) → v < P .tasks → j < P .cores → rateOn grid v j ≡ P .rate (suc v) j
-  pub rated : (v j : ℕ) → v < P .tasks → j < P .cores → has (ratedOn grid v) 0 j ≡ ltb 0 (P .rate (suc v) j)
-  pub evens : (v : ℕ) → v < P .tasks → evenOn grid v ≡ gate (isQuick e && evenRates P (suc v)) 1
+  pub rated : (v j : ℕ) → v < P .tasks → j < P .cores → has (ratedOn grid) v j ≡ ltb 0 (P .rate (suc v) j)
+  pub evens : (v : ℕ) → v < P .tasks → has (evensOn grid) v 0 ≡ isQuick e && evenRates P (suc v)
   pub twins : (a j : ℕ) → a < P .cores → j < a → twinOn grid a j ≡ gate (isQuick e && twin P j a) 1
 
 -- the counters hold the work left before cell c

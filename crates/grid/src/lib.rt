@@ -5,22 +5,23 @@
 //          0   entries: for slot t and task v, at t * 16 + v, twice the counter of the
 //              task's job there, and 1 more in the job's highest-numbered slot            1024 * 16
 //      16384   rates: of task v on core c, at v * 4 + c                                     16 * 4
-//      16448   even: for rule A, 1 for a task whose positive rates are equal                16
-//      16464   twins: for rule B, at c * 4 + j, 1 if cores c and j are twins; read for j < c 4 * 4
-//      16480   the task count, the cores, the slots                                          3
-//      16483   rated: for task v, at v, the cores, as bits, on which its rate is positive   16
-//      16499   ends: for each slot the first task whose job has its highest-numbered
+//      16448   even: for rule A, the set of the tasks whose positive rates are equal        4
+//      16452   rated: the sets of the tasks whose rate on a core is positive                 4
+//      16456   twins: for rule B, at c * 4 + j, 1 if cores c and j are twins; read for j < c 4 * 4
+//      16472   the task count, the cores, the slots                                          3
+//      16475   ends: for each slot the first task whose job has its highest-numbered
 //              slot there; the task count if there is none                                1024
-//      17523
+//      17499
 //
-// The marks of rules A and B are 0 for the plain engine. Tasks and cores count from 0 here.
+// Sets of tasks are laid out as in crate `sets`, four tasks a place. The set of rule A is empty and the marks of rule B are 0
+// for the plain engine. Tasks and cores count from 0 here.
 // Beside the grid stands `left`, the work left of each job at its counter, job * 16 + task; its last place, 16384, is the
 // counter of a task in a slot where it is closed, and is always 0.
 ghost use mathlib.Core.Path.{_≡_};
 ghost use Prim.Native.Nat.{_+_, _≤_, _<_};
 ghost use lib.Dec.{ltb};
 ghost use Rattle.laws.specs.Sum.{gate};
-ghost use Rattle.grid.specs.Grid.{counterOn, rateOn, ableOn, setsOn, twinRankOn, floorOn, settledOn, allSettledOn, tasksOn, OnGrid};
+ghost use Rattle.grid.specs.Grid.{counterOn, rateOn, setsAt, setsOn, barsIdle, twinRankOn, floorOn, settledOn, firstDueOn, dueOn, starves as starvesOf, tasksOn, OnGrid};
 use tasks::Work;
 
 // Where the grid's parts begin, behind the entries.
@@ -28,17 +29,20 @@ pub const RATES_AT: usize = 16384;
 
 pub const EVEN_AT: usize = 16448;
 
-pub const TWINS_AT: usize = 16464;
+pub const RATED_AT: usize = 16452;
 
-pub const TASKS_AT: usize = 16480;
+pub const TWINS_AT: usize = 16456;
 
-pub const CORES_AT: usize = 16481;
+pub const TASKS_AT: usize = 16472;
 
-pub const SLOTS_AT: usize = 16482;
+pub const CORES_AT: usize = 16473;
 
-pub const RATED_AT: usize = 16483;
+pub const SLOTS_AT: usize = 16474;
 
-pub const ENDS_AT: usize = 16499;
+pub const ENDS_AT: usize = 16475;
+
+// The counter of no job: none is due.
+pub const NONE_DUE: usize = 65536;
 
 // A number of the grid as an index, and that it is one of 16 bits.
 pub fn wide(x: u16) -> usize
@@ -55,7 +59,7 @@ fn byte(x: u8) -> usize
 }
 
 // The counter of the work left of a task's job in a slot.
-pub fn counter(grid: &[u16; 17523], slot: usize, task: usize) -> usize
+pub fn counter(grid: &[u16; 17499], slot: usize, task: usize) -> usize
     requires { ⌜ OnGrid (now grid) slot × (task < tasksOn (now grid)) ⌝ }
     ensures { λ r. ⌜ (r ≡ counterOn (now (grid .entry)) slot task) × (r ≤ 16384) ⌝ }
 {
@@ -63,7 +67,7 @@ pub fn counter(grid: &[u16; 17523], slot: usize, task: usize) -> usize
 }
 
 // The rate of a task on a core.
-pub fn rate(grid: &[u16; 17523], task: usize, core: usize) -> u16
+pub fn rate(grid: &[u16; 17499], task: usize, core: usize) -> u16
     requires { ⌜ (task < 16) × (core < 4) ⌝ }
     ensures { λ r. ⌜ r ≡ rateOn (now (grid .entry)) task core ⌝ }
 {
@@ -72,36 +76,49 @@ pub fn rate(grid: &[u16; 17523], task: usize, core: usize) -> u16
 
 // 1 if there is work, else 0: reckoned, since a branch on it would be foreseen badly.
 fn some(work: Work) -> u64
-    ensures { λ r. ⌜ r ≡ gate (ltb 0 (work .0)) 1 ⌝ }
+    ensures { λ r. ⌜ (r ≡ gate (ltb 0 (work .0)) 1) × (r ≤ 1) ⌝ }
 {
     (work.0 as u64 + 65535) / 65536
 }
 
-// The cores, as bits, on which a task has a positive rate, if there is work.
-fn able(grid: &[u16; 17523], task: usize, work: Work) -> u64
-    requires { ⌜ task < 16 ⌝ }
-    ensures { λ r. ⌜ (r ≡ ableOn (now (grid .entry)) task (work .0)) × (r < 16) ⌝ }
+// The sets that stand in four places, of four tasks each.
+fn sets_at(grid: &[u16; 17499], x: usize) -> u64
+    requires { ⌜ x ≤ 16471 ⌝ }
+    ensures { λ r. ⌜ r ≡ setsAt (now (grid .entry)) x ⌝ }
 {
-    some(work) * (grid[RATED_AT + task] % 16) as u64
+    let first = wide(grid[x]);
+    let second = wide(grid[x + 1]);
+    let third = wide(grid[x + 2]);
+    let fourth = wide(grid[x + 3]);
+    (first + second * 65536 + third * 4294967296 + fourth * 281474976710656) as u64
 }
 
 // The sets of the tasks that may stand in a slot, where nothing stands yet.
-pub fn enter(grid: &[u16; 17523], left: &[u16; 16385], slot: usize) -> u64
+pub fn enter(grid: &[u16; 17499], left: &[u16; 16385], slot: usize) -> u64
     requires { ⌜ OnGrid (now grid) slot ⌝ }
     ensures { λ r. ⌜ r ≡ setsOn (now (grid .entry)) (now (left .entry)) slot ⌝ }
 {
     let mut task = wide(grid[TASKS_AT]);
-    let mut sets: u64 = 0;
+    let mut set: u64 = 0;
     while 0 < task {
         task -= 1;
         let work = Work(left[counter(grid, slot, task)]);
-        sets = sets::pushed(sets, able(grid, task, work));
+        set = sets::pushed(set, some(work));
     }
-    sets
+    sets::common(sets::on_cores(set), sets_at(grid, RATED_AT))
+}
+
+// Whether rule A bars idle on a core: a task in the core's set has equal positive rates.
+pub fn bars_idle(grid: &[u16; 17499], sets: u64, core: usize) -> bool
+    requires { ⌜ core < 4 ⌝ }
+    ensures { λ r. ⌜ r ≡ barsIdle (now (grid .entry)) sets core ⌝ }
+{
+    let even = sets::common(sets::of_core(sets, core), sets_at(grid, EVEN_AT));
+    even != 0
 }
 
 // The rank of the value on core j of a slot, if that is an earlier twin of a core; else 0. Idle ranks last.
-fn twin_rank(grid: &[u16; 17523], table: &[u8; 4096], first: usize, core: usize, j: usize) -> usize
+fn twin_rank(grid: &[u16; 17499], table: &[u8; 4096], first: usize, core: usize, j: usize) -> usize
     requires { ⌜ (core < 4) × (j < core) × (first + core ≤ 4096) ⌝ }
     ensures { λ r. ⌜ (r ≡ twinRankOn (now (grid .entry)) (now (table .entry)) first core j) × (r ≤ 65536) ⌝ }
 {
@@ -116,7 +133,7 @@ fn twin_rank(grid: &[u16; 17523], table: &[u8; 4096], first: usize, core: usize,
 }
 
 // The rank below which rule B bars a value: the highest on an earlier twin.
-pub fn floor(grid: &[u16; 17523], table: &[u8; 4096], first: usize, core: usize) -> usize
+pub fn floor(grid: &[u16; 17499], table: &[u8; 4096], first: usize, core: usize) -> usize
     requires { ⌜ (core < 4) × (first + core ≤ 4096) ⌝ }
     ensures { λ r. ⌜ r ≡ floorOn (now (grid .entry)) (now (table .entry)) first core ⌝ }
 {
@@ -133,7 +150,7 @@ pub fn floor(grid: &[u16; 17523], table: &[u8; 4096], first: usize, core: usize)
 }
 
 // Whether a task's job has no work left, if this is its highest-numbered slot.
-fn settled(grid: &[u16; 17523], left: &[u16; 16385], slot: usize, task: usize) -> bool
+fn settled(grid: &[u16; 17499], left: &[u16; 16385], slot: usize, task: usize) -> bool
     requires { ⌜ OnGrid (now grid) slot × (task < tasksOn (now grid)) ⌝ }
     ensures { λ r. ⌜ r ≡ settledOn (now (grid .entry)) (now (left .entry)) slot task ⌝ }
 {
@@ -145,18 +162,39 @@ fn settled(grid: &[u16; 17523], left: &[u16; 16385], slot: usize, task: usize) -
     work.0 == 0
 }
 
-// Whether each job whose highest-numbered slot this is has no work left.
-pub fn all_settled(grid: &[u16; 17523], left: &[u16; 16385], slot: usize) -> bool
+// The counter of the first job that has its highest-numbered slot here and work left.
+pub fn first_due(grid: &[u16; 17499], left: &[u16; 16385], slot: usize) -> usize
     requires { ⌜ OnGrid (now grid) slot ⌝ }
-    ensures { λ r. ⌜ r ≡ allSettledOn (now (grid .entry)) (now (left .entry)) slot ⌝ }
+    ensures { λ r. ⌜ r ≡ firstDueOn (now (grid .entry)) (now (left .entry)) slot ⌝ }
 {
     let n = wide(grid[TASKS_AT]);
     let mut task = wide(grid[ENDS_AT + slot]);
     while task < n {
         if !settled(grid, left, slot, task) {
-            return false;
+            return counter(grid, slot, task);
         }
         task += 1;
     }
-    true
+    NONE_DUE
+}
+
+// The same on the slot's last core; on the others none is due.
+pub fn due(grid: &[u16; 17499], left: &[u16; 16385], slot: usize, core: usize) -> usize
+    requires { ⌜ OnGrid (now grid) slot × (core < 4) ⌝ }
+    ensures { λ r. ⌜ r ≡ dueOn (now (grid .entry)) (now (left .entry)) slot core ⌝ }
+{
+    if core + 1 < wide(grid[CORES_AT]) {
+        return NONE_DUE;
+    }
+    first_due(grid, left, slot)
+}
+
+// Whether a job is due, and it is not that of this counter.
+pub fn starves(due: usize, counter: usize) -> bool
+    ensures { λ r. ⌜ r ≡ starvesOf due counter ⌝ }
+{
+    if due == NONE_DUE {
+        return false;
+    }
+    due != counter
 }

@@ -162,14 +162,14 @@ module _ {m : ℕ} (list : TaskList) (s : SoundList m (rows list)) where
           ∙ omega arith
 
 -- ---- a walk over the filled arrays
-pub filled-walks : (list : TaskList) (m e L u : ℕ) (t : List ℕ) (r : ℕ) (t′ grid left l : List ℕ) → grid ≡ gridOf list m e L (replicate 17523 0)
+pub filled-walks : (list : TaskList) (m e L u : ℕ) (t : List ℕ) (r : ℕ) (t′ grid left l : List ℕ) → grid ≡ gridOf list m e L (replicate 17499 0)
     → left ≡ filled (replicate 16385 0) 0 16384 (workAt (list .work)) → Ran grid 0 (setsOn grid left 0) t left u r t′ l → ListWalked list m e L u t r t′
 unfolding leftOf
 filled-walks list m e L u t r t′ grid left l eb el ran = record { left = l; ran = subst₂ (λ grid left. Ran grid 0 (setsOn grid left 0) t left u r t′ l) eb el ran }
 
 -- ---- the walk on the filled arrays, from as many tries as leave b
 module _ (m : ℕ) (list : TaskList) (e b L : ℕ) (sound : IsSound m (rows list)) (eL : L ≡ tableLength (rows list)) (lb : b < 4294967296)
-    (grid left : List ℕ) (eb : grid ≡ gridOf list m e L (replicate 17523 0)) (el : left ≡ leftOf list) where
+    (grid left : List ℕ) (eb : grid ≡ gridOf list m e L (replicate 17499 0)) (el : left ≡ leftOf list) where
   -- what the list has
   sound-parts : SoundList m (rows list)
   sound-parts = sound-list m (rows list) sound
@@ -192,7 +192,7 @@ module _ (m : ℕ) (list : TaskList) (e b L : ℕ) (sound : IsSound m (rows list
   end = walkOn (suc (cellsLeft grid 0)) grid full (firstOn grid 0) 0 0 (setsOn grid left 0) (replicate 4096 0) left (full - b)
 
   -- what it tells there
-  shows : Shows full (tableLength (rows list) * m) 0 (replicate 4096 0) left end (limited (full - b + b) (spend (full - b) (walked e (ownInstance m (rows list)))))
+  shows : Shows full (tableLength (rows list) * m) 0 (replicate 4096 0) end (limited (full - b + b) (spend (full - b) (walked e (ownInstance m (rows list)))))
   unfolding instanceOf
   shows = shows-same (ap₂ (λ k first. walkOn k grid full first 0 0 (setsOn grid left 0) (replicate 4096 0) left (full - b)) size (zero-mul (coresOn grid)))
       (ap (λ k. limited k (spend (full - b) (walked e (ownInstance m (rows list))))) (omega arith))

@@ -29,7 +29,7 @@ leftOf list = filled (replicate 16385 0) 0 16384 (workAt (list .work))
 -- what a walk over the grid and the counters of a list answers and leaves: from u tries and the cells t, the number r and the cells t′
 pub record ListWalked (list : TaskList) (m e L u : ℕ) (t : List ℕ) (r : ℕ) (t′ : List ℕ) : Type 0 where
   pub left : List ℕ
-  pub ran : Ran (gridOf list m e L (replicate 17523 0)) 0 (setsOn (gridOf list m e L (replicate 17523 0)) (leftOf list) 0) t (leftOf list) u r t′ left
+  pub ran : Ran (gridOf list m e L (replicate 17499 0)) 0 (setsOn (gridOf list m e L (replicate 17499 0)) (leftOf list) 0) t (leftOf list) u r t′ left
 
 -- 5.1, 5.2, 5.3: the verdict of a walk that ends so
 unfoldable pub verdictOf : End → ℕ

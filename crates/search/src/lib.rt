@@ -92,7 +92,7 @@ fn walk_cells(
     requires { ⌜ IsSound m (rows list) × (len .0 ≡ tableLength (rows list)) ⌝ }
     ensures { λ r. ⌜ ListWalked list m engine (len .0) start (now (cells .entry)) r (now (cells .exit)) ⌝ }
 {
-    let mut grid = [0; 17523];
+    let mut grid = [0; 17499];
     let mut left = [0; 16385];
     fill::fill_grid(&mut grid, list, m, engine, len);
     let work = list.work;

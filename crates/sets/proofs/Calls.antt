@@ -3,11 +3,13 @@
 use Prim.Native.Nat.{ℕ}
 use mathlib.Core.Path.{_≡_, refl}
 use Rattle.laws.proofs.Only.{Says, only}
-use Rattle.sets.specs.Sets.{ofCore, lowest, without, pushed}
+use Rattle.sets.specs.Sets.{ofCore, lowest, without, pushed, common, onCores}
 use Rattle.sets.proofs.of_core as of-core
 use Rattle.sets.proofs.lowest as lowest-task
 use Rattle.sets.proofs.without as without-task
 use Rattle.sets.proofs.pushed as pushed-cores
+use Rattle.sets.proofs.common as common-tasks
+use Rattle.sets.proofs.on_cores as on-cores
 
 -- ---- of_core
 abbrev pub OfCore : ℕ → ℕ → ℕ → Type 0
@@ -48,3 +50,23 @@ pushed-says κs sets cores sets′ cores′ r M 𝓤 H A mem run = refl
 
 pub pushed-only : (sets cores r r′ : ℕ) → Pushed sets cores r → Pushed sets cores r′ → r ≡ r′
 pushed-only sets cores r r′ = only
+
+-- ---- common
+abbrev pub Common : ℕ → ℕ → ℕ → Type 0
+Common a b r = r ≡ common a b
+
+common-says : (κs a b a′ b′ r : _) → Says (λ M 𝓤 H A mem run. common-tasks.ensures-1 𝓤 H κs A mem run a b a′ b′ r) (Common a b r)
+common-says κs a b a′ b′ r M 𝓤 H A mem run = refl
+
+pub common-only : (a b r r′ : ℕ) → Common a b r → Common a b r′ → r ≡ r′
+common-only a b r r′ = only
+
+-- ---- on_cores
+abbrev pub OnCores : ℕ → ℕ → Type 0
+OnCores set r = r ≡ onCores set
+
+on-cores-says : (κs set set′ r : _) → Says (λ M 𝓤 H A mem run. on-cores.ensures-1 𝓤 H κs A mem run set set′ r) (OnCores set r)
+on-cores-says κs set set′ r M 𝓤 H A mem run = refl
+
+pub on-cores-only : (set r r′ : ℕ) → OnCores set r → OnCores set r′ → r ≡ r′
+on-cores-only set r r′ = only

@@ -1,7 +1,7 @@
 -- Sets of tasks by their digits: each operation is told digit by digit, and the digits of the two masks by computation and by their places.
 -- Assumes nothing.
 use Prim.Native.Nat.{ℕ, zero, suc, _+_, _-_, _*_, _/_, _%_, _^_, _≤_, _<_, suc-le-suc, min}
-use native.Mathlib.Nat.{le-of-suc-le-suc, not-suc-le-zero, zero-lt-suc, lt-of-lt-of-le, lt-of-le-of-lt, add-zero, add-comm, mul-assoc, add-mul-div-right, div-one, div-eq-of-lt, div-lt-iff-lt-mul, mod-lt, min-zero, min-le-left, min-eq-left, pow-suc, zero-div}
+use native.Mathlib.Nat.{le-of-suc-le-suc, not-suc-le-zero, zero-lt-suc, lt-of-lt-of-le, lt-of-le-of-lt, add-zero, add-comm, mul-assoc, add-mul-div-right, div-one, div-eq-of-lt, div-lt-iff-lt-mul, mod-lt, min-zero, zero-min, min-eq-right, min-le-left, min-eq-left, pow-suc, zero-div}
 use native.Mathlib.Decide.{ℕ-discrete}
 use native.Mathlib.Omega.{arith}
 use native.Mathlib.Numerals.{one-add}
@@ -15,9 +15,10 @@ use lib.Pow.{pow-pos, pow-mono, pow-add, shr-shr, shl-shr, shl-lt, high}
 use lib.Bits.{bitAnd, bitXor, differ, block-odd, and-step, xor-step, and-shr, xor-shr, and-le-l, and-le-r, xor-lt}
 use lib.Count.{trailingZeros, under}
 use Rattle.laws.specs.Tests.{all}
-use Rattle.laws.proofs.TestLaws.{all-at}
+use Rattle.laws.specs.Sum.{gate}
+use Rattle.laws.proofs.TestLaws.{all-at, all-true, all-false}
 use Rattle.laws.proofs.SumLaws.{lt-or-ge}
-use Rattle.sets.specs.Sets.{has, ofCore, lowest, without, pushed, Alone}
+use Rattle.sets.specs.Sets.{has, ofCore, lowest, without, pushed, common, onCores, Alone}
 
 -- ---- digits
 
@@ -242,21 +243,89 @@ pub lowest-first : (s w : ℕ) → Alone s → w < lowest s → has s w 0 ≡ fa
 unfolding has lowest
 lowest-first s w a h = ap (λ (d : ℕ). eqb d 1) (trailing-none 64 s (4 * w + 0) (omega arith))
 
+-- ---- the tasks in both sets
+
+-- two digits are both 1
+min-digit : (d e : ℕ) → d < 2 → e < 2 → eqb (min d e) 1 ≡ eqb d 1 && eqb e 1
+min-digit zero e h l = ap (λ (x : ℕ). eqb x 1) (zero-min e)
+min-digit (suc zero) e h l = ap (λ (x : ℕ). eqb x 1) (min-eq-right (le-of-suc-le-suc l))
+min-digit (suc (suc d)) e h l = absurd (not-suc-le-zero (le-of-suc-le-suc (le-of-suc-le-suc h)))
+
+-- a task is in both
+pub common-has : (a b v c : ℕ) → has (common a b) v c ≡ has a v c && has b v c
+unfolding has common
+common-has a b v c =
+    let k : ℕ = 4 * v + c in
+    ap (λ (d : ℕ). eqb d 1) (and-digit a b k) ∙ min-digit (digit a k) (digit b k) (digit-lt a k) (digit-lt b k)
+
+-- with a set of core 0, alone, only the set of core 0 has tasks
+common-alone : (a b : ℕ) → Alone a → Alone (common a b)
+common-alone a b alone = record {
+  none = λ v c x l. common-has a b v c ∙ ap (λ (t : Bool). t && has b v c) (alone .none v c x l);
+}
+
+-- with 64 digits they have 64
+common-lt : (a b : ℕ) → a < 2 ^ 64 → common a b < 2 ^ 64
+unfolding common
+common-lt a b h = lt-of-le-of-lt (and-le-l a b) h
+
+-- there is none exactly if no task is in both
+pub common-none : (a b : ℕ) → a < 2 ^ 64 → Alone a → eqb (common a b) 0 ≡ all 16 (λ v. not (has a v 0 && has b v 0))
+common-none a b h alone =
+    let apart : ℕ → Bool = λ v. not (has a v 0 && has b v 0) in
+    elim (ℕ-discrete (common a b) 0) [
+      | yes z ↦ eq-eqb (common a b) 0 z ∙ sym (all-true 16 apart (λ v l. ap not (sym (common-has a b v 0) ∙ ap (λ (s : ℕ). has s v 0) z ∙ none-has v 0)))
+      | no x ↦
+          let low = lowest-in (common a b) x (common-lt a b h) (common-alone a b alone) in
+          ne-eqb (common a b) 0 x ∙ sym (all-false 16 apart (lowest (common a b)) (low .0) (ap not (sym (common-has a b (lowest (common a b)) 0) ∙ low .1)))
+    ]
+
+-- ---- sets over sets
+
+-- the low j tasks
+pub over-first : (j s a v c : ℕ) → v < j → c < 4 → has (s * 2 ^ (4 * j) + a) v c ≡ has a v c
+unfolding has
+over-first j s a v c h l = ap (λ (d : ℕ). eqb d 1) (digit-below s (4 * j) (4 * v + c) a (omega arith))
+
+-- the tasks above them
+pub over-next : (j s a v c : ℕ) → a < 2 ^ (4 * j) → has (s * 2 ^ (4 * j) + a) (j + v) c ≡ has s v c
+unfolding has
+over-next j s a v c h =
+    ap (λ (d : ℕ). eqb d 1)
+    (ap (digit (s * 2 ^ (4 * j) + a)) (omega arith) ∙ sym (digit-shr (s * 2 ^ (4 * j) + a) (4 * j) (4 * v + c)) ∙ ap (λ (x : ℕ). digit x (4 * v + c)) (high s (4 * j) h))
+
 -- ---- a new task 0
 
 -- the new task 0 is on its cores
-pub pushed-first : (s cores c : ℕ) → cores < 16 → c < 4 → has (pushed s cores) 0 c ≡ has cores 0 c
-unfolding has pushed
-pushed-first s cores c h l = ap (λ (d : ℕ). eqb d 1) (digit-below s 4 (4 * 0 + c) cores (omega arith))
+pub pushed-first : (s cores c : ℕ) → c < 4 → has (pushed s cores) 0 c ≡ has cores 0 c
+unfolding pushed
+pushed-first s cores c l = over-first 1 s cores 0 c (omega arith) l
 
 -- each other task stays on its cores, one number higher
 pub pushed-next : (s cores v c : ℕ) → cores < 16 → has (pushed s cores) (suc v) c ≡ has s v c
-unfolding has pushed
-pushed-next s cores v c h =
-    ap (λ (d : ℕ). eqb d 1)
-    (ap (digit (s * 16 + cores)) (omega arith) ∙ sym (digit-shr (s * 16 + cores) 4 (4 * v + c)) ∙ ap (λ (x : ℕ). digit x (4 * v + c)) (high s 4 h))
+unfolding pushed
+pushed-next s cores v c h = ap (λ (w : ℕ). has (s * 16 + cores) w c) (sym (one-add v)) ∙ over-next 1 s cores v c h
 
 -- the sets of k tasks become those of k + 1
 pub pushed-lt : (s cores k : ℕ) → s < 16 ^ k → cores < 16 → pushed s cores < 16 ^ suc k
 unfolding pushed
 pushed-lt s cores k h l = subst (λ (p : ℕ). s * 16 + cores < p) (sym (pow-suc 16 k)) (digits-lt h l)
+
+-- ---- a set on all four cores
+
+-- no task
+pub on-cores-none : onCores 0 ≡ 0
+unfolding onCores
+on-cores-none = refl
+
+-- a new task 0 is on all or on none
+pub on-cores-pushed : (s : ℕ) (b : Bool) → onCores (pushed s (gate b 1)) ≡ pushed (onCores s) (gate b 15)
+unfolding onCores pushed gate
+on-cores-pushed s true = omega arith
+on-cores-pushed s false = omega arith
+
+-- bits of all four cores, or of none
+pub on-cores-first : (b : Bool) (c : ℕ) → c < 4 → has (gate b 15) 0 c ≡ b
+unfolding has gate
+on-cores-first true c l = ap (λ (d : ℕ). eqb d 1) {x = digit 15 (4 * 0 + c)} {y = 1} (eqb→eq _ _ (all-at 4 (λ j. eqb (digit 15 (4 * 0 + j)) 1) tt c l))
+on-cores-first false c l = none-has 0 c

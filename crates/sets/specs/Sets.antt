@@ -28,6 +28,14 @@ without s v = bitXor s (bitAnd s (15 * 2 ^ (4 * v)))
 unfoldable pub pushed : ℕ → ℕ → ℕ
 pushed s cores = s * 16 + cores
 
+-- the tasks that are in both, core by core
+unfoldable pub common : ℕ → ℕ → ℕ
+common a b = bitAnd a b
+
+-- the sets with each task of a set of core 0, alone, on all four cores
+unfoldable pub onCores : ℕ → ℕ
+onCores s = 15 * s
+
 -- only the set of core 0 has tasks
 pub record Alone (s : ℕ) : Type 0 where
   pub none : (v c : ℕ) → c ≢ 0 → c < 4 → has s v c ≡ false

@@ -1,7 +1,7 @@
 // Sets of tasks, one for each of four cores, as the bits of one number: task v, from 0, on core c is bit 4 * v + c.
 ghost use mathlib.Core.Path.{_≡_};
-ghost use Prim.Native.Nat.{_^_, _<_};
-ghost use Rattle.sets.specs.Sets.{ofCore, lowest as lowestOf, without as withoutOf, pushed as pushedOf};
+ghost use Prim.Native.Nat.{_*_, _^_, _<_};
+ghost use Rattle.sets.specs.Sets.{ofCore, lowest as lowestOf, without as withoutOf, pushed as pushedOf, common as commonOf, onCores};
 
 // The set of a core, as the set of core 0, alone.
 pub fn of_core(sets: u64, core: usize) -> u64
@@ -32,4 +32,19 @@ pub fn pushed(sets: u64, cores: u64) -> u64
     ensures { λ r. ⌜ r ≡ pushedOf sets cores ⌝ }
 {
     (sets << 4) + cores
+}
+
+// The tasks that are in both, core by core.
+pub fn common(a: u64, b: u64) -> u64
+    ensures { λ r. ⌜ r ≡ commonOf a b ⌝ }
+{
+    a & b
+}
+
+// The sets with each task of a set of core 0, alone, on all four cores.
+pub fn on_cores(set: u64) -> u64
+    requires { ⌜ 15 * set < 2 ^ 64 ⌝ }
+    ensures { λ r. ⌜ r ≡ onCores set ⌝ }
+{
+    15 * set
 }

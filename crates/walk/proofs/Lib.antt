@@ -1,3 +1,4 @@
+pub mod KeepLaws
 pub mod TurnLaws
 pub mod ObeyLaws
 pub mod RefineLaws

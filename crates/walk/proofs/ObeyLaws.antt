@@ -6,10 +6,10 @@ use native.Mathlib.Numerals.{add-one}
 use mathlib.Core.Path.{_≡_, refl, sym, ap, ap₂, _∙_}
 use mathlib.Core.Bool.{Bool, true, false, not, _&&_}
 use mathlib.Core.List.{List}
-use lib.Dec.{leb, eqb, leb→le, le→leb, eqb→eq}
-use borrow.Author.Tests.{le-leb, eq-eqb}
+use lib.Dec.{leb, eqb, leb→le, le→leb}
+use borrow.Author.Tests.{le-leb}
 use lib.ListN.{length, take}
-use Rattle.laws.specs.Sum.{gate, sum}
+use Rattle.laws.specs.Sum.{gate}
 use Rattle.laws.specs.Tests.{all, imp}
 use Rattle.laws.specs.Lists.{nth}
 use Rattle.laws.specs.Order.{rankOf}
@@ -22,9 +22,9 @@ use Rattle.rules.specs.Search.{ruleOf}
 use Rattle.rules.proofs.Plain.{prefix-permitted, prefix-settled}
 use Rattle.rules.proofs.Quick.{prefix-quickly}
 use Rattle.sets.specs.Sets.{has}
-use Rattle.grid.specs.Grid.{most, evenOn, tasksOn, twinRankOn, floorOn}
+use Rattle.grid.specs.Grid.{most, tasksOn, barsIdle, twinRankOn, floorOn}
 use Rattle.grid.specs.GridFor.{Small, GridFor}
-use Rattle.grid.proofs.GridForLaws.{test-same, Sets, core-is, beside-at, permitted-is}
+use Rattle.grid.proofs.GridForLaws.{test-same, Sets, core-is, beside-at, permitted-is, bars-is}
 
 -- ---- numbers and tests
 -- the largest is at most x exactly if each is
@@ -38,29 +38,11 @@ leb-most (suc n) g x = leb-max (most n g) (g n) ∙ ap (λ b. b && leb (g n) x) 
         (λ h. let l = leb→le (max a b) x h in make-both (leb a x) (leb b x) (le→leb a x (omega arith)) (le→leb b x (omega arith)))
         (λ h. let p = both (leb a x) (leb b x) h in le→leb (max a b) x (omega (arith, leb→le a x (p .0), leb→le b x (p .1))))
 
--- a sum is 0 exactly if each term is
-eqb-sum : (n : ℕ) (g : ℕ → ℕ) → eqb (sum n g) 0 ≡ all n (λ j. eqb (g j) 0)
-unfolding sum
-eqb-sum zero g = refl
-eqb-sum (suc n) g = eqb-add (sum n g) (g n) ∙ ap (λ b. b && eqb (g n) 0) (eqb-sum n g)
-  where
-    eqb-add : (a b : ℕ) → eqb (a + b) 0 ≡ eqb a 0 && eqb b 0
-    eqb-add a b = test-same _ _
-        (λ h. let l = eqb→eq (a + b) 0 h in make-both (eqb a 0) (eqb b 0) (rw (eq-eqb a 0 (omega arith)) tt) (rw (eq-eqb b 0 (omega arith)) tt))
-        (λ h. let p = both (eqb a 0) (eqb b 0) h in rw (eq-eqb (a + b) 0 (omega (arith, eqb→eq a 0 (p .0), eqb→eq b 0 (p .1)))) tt)
-
 -- the rank on a twin is at most x
 leb-twin : (b : Bool) (r x : ℕ) → leb (gate (not (eqb (gate b 1) 0)) r) x ≡ imp b (leb r x)
 unfolding gate
 leb-twin true r x = refl
 leb-twin false r x = le-leb 0 x (omega arith)
-
--- a task that may stand there does not bar idle
-eqb-even : (p b : Bool) → eqb (gate p (gate b 1)) 0 ≡ imp p (not b)
-unfolding gate
-eqb-even true true = refl
-eqb-even true false = refl
-eqb-even false b = refl
 
 -- the rank of idle is the highest
 rank-last : (n v : ℕ) → v ≤ n → rankOf n v ≤ suc n
@@ -71,6 +53,11 @@ rank-last n (suc v) l = omega arith
 and-true : (b c : Bool) → c ≡ true → b && c ≡ b
 and-true true c e = e
 and-true false c e = refl
+
+-- a test that does not fail
+not-not : (b : Bool) → not (not b) ≡ b
+not-not true = refl
+not-not false = refl
 
 -- what passes after any test
 imp-true : (b : Bool) → imp b true ≡ true
@@ -124,14 +111,14 @@ module _ {P : Instance} (small : Small P) (grid : List ℕ) {first slot core : �
 
   -- whether idle is tried
   pub idle-tried : (e : ℕ) → GridFor P e grid → ((d : ℕ) → d < first + core → nth t d ≤ P .tasks)
-      → ruleOf e P .tried (take (first + core) t) 0 ≡ eqb (sum (tasksOn grid) (λ v. gate (has sets v core) (evenOn grid v))) 0
+      → ruleOf e P .tried (take (first + core) t) 0 ≡ not (barsIdle grid sets core)
   unfolding quickly permitted ruleA idleTried
-  idle-tried zero ready known = sym (eqb-sum (tasksOn grid) _
-      ∙ all-true (tasksOn grid) _ (λ v lv. rw (ready .evens v (rw (ready .tasks) at lv)) (eqb-even (has sets v core) false ∙ imp-true (has sets v core))))
+  idle-tried zero ready known = sym (ap not (bars-is small ready ef ls lc holds)
+      ∙ ap (λ b. not (not b)) (all-true (P .tasks) _ (λ v lv. imp-true (has sets v core))))
   idle-tried (suc e) ready known = prefix-quickly P (first + core) t room 0
       ∙ ap₂ (λ a b. true && (a && (b && true))) (sym evens) (idle-ranked P (first + core) (nth t) known)
       ∙ and-true _ true refl
     where
-      evens : eqb (sum (tasksOn grid) (λ v. gate (has sets v core) (evenOn grid v))) 0 ≡ idleTried P (first + core) (nth t)
-      evens = eqb-sum (tasksOn grid) _ ∙ rw (ready .tasks) (all-same (P .tasks) _ _ (λ v lv.
-          rw (ready .evens v lv, permitted-is small ready ef ls lc (nth t) holds v lv) (eqb-even (permitted P (first + core) (nth t) (suc v)) (evenRates P (suc v)))))
+      evens : not (barsIdle grid sets core) ≡ idleTried P (first + core) (nth t)
+      evens = ap not (bars-is small ready ef ls lc holds) ∙ not-not _ ∙ all-same (P .tasks) _ _ (λ v lv.
+          ap (λ b. imp b (not (evenRates P (suc v)))) (permitted-is small ready ef ls lc (nth t) holds v lv))

@@ -4,16 +4,15 @@ use Prim.Native.Nat.{ℕ, zero, suc, _+_, _*_, _-_, _≤_, _<_, pred}
 use native.Mathlib.Omega.{arith}
 use native.Mathlib.Numerals.{add-one}
 use native.Mathlib.Decide.{ℕ-discrete}
-use native.Mathlib.Nat.{add-zero, mul-le-mul-right, mul-pos}
+use native.Mathlib.Nat.{mul-le-mul-right, mul-pos}
 use mathlib.Core.Path.{_≡_, refl, sym, ap, subst, subst₂, _∙_}
 use mathlib.Core.Logic.{_≢_, ⊎-elim}
-use mathlib.Core.Bool.{Bool, true, false, _&&_}
+use mathlib.Core.Bool.{Bool, true, false, cond, not, _&&_}
 use mathlib.Core.List.{List, [], _∷_, _++_}
-use lib.Dec.{leb, eqb}
-use borrow.Author.Tests.{lt-ltb, le-ltb, le-leb, lt-leb, eq-eqb, ne-eqb, leb-true, leb-false}
+use lib.Dec.{leb}
+use borrow.Author.Tests.{lt-ltb, le-ltb, le-leb, lt-leb, eq-eqb, ne-eqb}
 use lib.ListN.{length, take, drop, set, length-set}
-use lib.Seq.{drop-cons, take-take, take-suc-set, getD-take, getD-set-same, getD-set-other, take-set-le, set-set, set-getD}
-use Rattle.laws.specs.Sum.{gate, sum}
+use lib.Seq.{drop-cons, take-take, take-suc-set, getD-take, getD-set-same, getD-set-other, take-set-le}
 use Rattle.laws.specs.Lists.{nth}
 use Rattle.laws.specs.Order.{upTo}
 use Rattle.tasks.specs.Instance.{Instance, jobEnd}
@@ -27,10 +26,11 @@ use Rattle.rules.specs.Rules.{values, settled, allSettled}
 use Rattle.rules.specs.Search.{ruleOf, walked}
 use Rattle.rules.proofs.Limit.{bwalk-from}
 use Rattle.sets.specs.Sets.{has, without}
-use Rattle.grid.specs.Grid.{counterOn, rateOn, evenOn, coresOn, slotsOn, setsOn, floorOn, allSettledOn}
-use Rattle.walk.specs.Machine.{End, Found, NoneFound, Stopped, State, state, Onward, idleLast, placed, tryFrom, afterCell, walkOn}
+use Rattle.grid.specs.Grid.{counterOn, rateOn, coresOn, slotsOn, setsOn, barsIdle, floorOn, allSettledOn}
+use Rattle.walk.specs.Machine.{End, Found, NoneFound, Stopped, State, state, Onward, oneMore, idleLast, placed, tryFrom, afterCell, walkOn}
 use Rattle.grid.specs.GridFor.{Small, GridFor, Lefts}
-use Rattle.walk.proofs.TurnLaws.{ended-stays, skip, barred-by-B, stop, tried, back}
+use Rattle.walk.proofs.KeepLaws.{given-back, KeepsOn, after-keeps, walk-keeps}
+use Rattle.walk.proofs.TurnLaws.{ended-stays, skip, stop, tried, back}
 use Rattle.grid.proofs.GridForLaws.{Sets, sets-same, all-settled-is, settled-within, open-tells, lefts-idle, lefts-put, sets-idle, sets-put, sets-start}
 use Rattle.walk.proofs.ObeyLaws.{cost-one, goes-prefix, task-tried, idle-tried}
 
@@ -40,17 +40,16 @@ toldAt Found n c t u = ended (found (take (n - c) (drop c t)) u)
 toldAt NoneFound n c t u = ended (none u)
 toldAt Stopped n c t u = stopped u
 
--- a state tells an answer from cell c on, has the table's earlier cells as they were and, if it found nothing, the work left too
-pub record Shows (b n c : ℕ) (t l : List ℕ) (s : State) (a : Outcome) : Type 0 where
+-- a state tells an answer from cell c on and has the table's earlier cells as they were
+pub record Shows (b n c : ℕ) (t : List ℕ) (s : State) (a : Outcome) : Type 0 where
   pub answer : toldAt (s .end) n c (s .table) (s .tries) ≡ a
   pub prefix : take c (s .table) ≡ take c t
   pub long : length (s .table) ≡ length t
   pub most : s .tries ≤ b
-  pub again : s .end ≡ NoneFound → s .left ≡ l
 
 -- the same for an equal state and an equal answer
-pub shows-same : {b n c : ℕ} {t l : List ℕ} {s s′ : State} {a a′ : Outcome} → s′ ≡ s → a′ ≡ a → Shows b n c t l s a → Shows b n c t l s′ a′
-shows-same {b} {n} {c} {t} {l} es ea h = subst₂ (Shows b n c t l) (sym es) (sym ea) h
+pub shows-same : {b n c : ℕ} {t : List ℕ} {s s′ : State} {a a′ : Outcome} → s′ ≡ s → a′ ≡ a → Shows b n c t s a → Shows b n c t s′ a′
+shows-same {b} {n} {c} {t} es ea h = subst₂ (Shows b n c t) (sym es) (sym ea) h
 
 -- an end is Nothing, or not
 end-cases : {X : Type 0} (e : End) → (e ≡ NoneFound → X) → ((e ≡ NoneFound → ⊥) → X) → X
@@ -58,16 +57,13 @@ end-cases Found f g = g (λ z. let y : _≡_ {A = ℕ} 0 1 = cc in omega arith)
 end-cases NoneFound f g = f refl
 end-cases Stopped f g = g (λ z. let y : _≡_ {A = ℕ} 0 1 = cc in omega arith)
 
--- Stopped is not Nothing
-stopped-apart : _≡_ {A = End} Stopped NoneFound → ⊥
-stopped-apart z = let y : _≡_ {A = ℕ} 0 1 = cc in omega arith
-
--- nor is Found
-found-apart : _≡_ {A = End} Found NoneFound → ⊥
-found-apart z = let y : _≡_ {A = ℕ} 0 1 = cc in omega arith
+-- the first of two tests that pass
+and-left : (a b : Bool) → a && b ≡ true → a ≡ true
+and-left true b h = refl
+and-left false b h = h
 
 -- ---- one cell earlier
-module _ {b n c : ℕ} (lc : c < n) (t l : List ℕ) {t₁ l₁ : List ℕ} {s : State} {a : Outcome} (shows : Shows b n (suc c) t₁ l₁ s a) {w : ℕ} (ew : nth t₁ c ≡ w)
+module _ {b n c : ℕ} (lc : c < n) (t : List ℕ) {t₁ : List ℕ} {s : State} {a : Outcome} (shows : Shows b n (suc c) t₁ s a) {w : ℕ} (ew : nth t₁ c ≡ w)
     (et : take c t₁ ≡ take c t) (el : length t₁ ≡ length t) (room : c < length t) (g : ℕ → Outcome) where
   -- the cells before
   before-prefix : take c (s .table) ≡ take c t
@@ -87,14 +83,13 @@ module _ {b n c : ℕ} (lc : c < n) (t l : List ℕ) {t₁ l₁ : List ℕ} {s :
       more = omega arith
 
   -- the walk has ended below this cell
-  below-ended : (s .end ≡ NoneFound → ⊥) → Shows b n c t l s (bnext w a g)
+  below-ended : (s .end ≡ NoneFound → ⊥) → Shows b n c t s (bnext w a g)
   unfolding toldAt
   below-ended x = record {
     answer = go (s .end) x (shows .answer);
     prefix = before-prefix;
     long = shows .long ∙ el;
     most = shows .most;
-    again = λ z. absurd (x z);
   }
     where
       go : (e : End) → (e ≡ NoneFound → ⊥) → toldAt e n (suc c) (s .table) (s .tries) ≡ a → toldAt e n c (s .table) (s .tries) ≡ bnext w a g
@@ -165,9 +160,9 @@ module _ (c : ℕ) (t t₀ : List ℕ) (et : take c t ≡ take c t₀) where
 
 -- ---- the walk
 module _ {P : Instance} (small : Small P) (e b : ℕ) (grid : List ℕ) (ready : GridFor P e grid) where
-  module _ {first slot core sets : ℕ} {t₀ l : List ℕ} (stands : Before P first slot core sets t₀ l) (rest : ℕ) (next : Onward)
+  module _ {first slot core sets : ℕ} {t₀ l : List ℕ} (stands : Before P first slot core sets t₀ l) (rest : ℕ) (next : Onward) (keeps : KeepsOn next)
       (onward : (sets₁ : ℕ) (t₁ l₁ : List ℕ) (u : ℕ) → After P first slot core sets₁ t₁ l₁ → u ≤ b
-      → Shows b (cells P) (suc (first + core)) t₁ l₁ (next sets₁ t₁ l₁ u) (bwalk b (ruleOf e P) (values P) rest (take (suc (first + core)) t₁) u)) where
+      → Shows b (cells P) (suc (first + core)) t₁ (next sets₁ t₁ l₁ u) (bwalk b (ruleOf e P) (values P) rest (take (suc (first + core)) t₁) u)) where
     -- the cell is in the table
     room : first + core < length t₀
     room = omega (arith, cell-in stands, stands .long)
@@ -191,57 +186,70 @@ module _ {P : Instance} (small : Small P) (e b : ℕ) (grid : List ℕ) (ready :
     below : (t : List ℕ) → take (first + core) t ≡ take (first + core) t₀ → length t ≡ length t₀ → (w : ℕ) → w ≤ P .tasks → (sets₁ : ℕ)
         → Sets P slot (core + 1) (suc (first + core)) (nth (set t (first + core) w)) sets₁ → (l₁ : List ℕ) → length l₁ ≡ 16385
         → Lefts P (first + core + 1) (nth (set t (first + core) w)) l₁ → (u : ℕ) → u ≤ b
-        → Shows b (cells P) (suc (first + core)) (set t (first + core) w) l₁ (next sets₁ (set t (first + core) w) l₁ u)
+        → Shows b (cells P) (suc (first + core)) (set t (first + core) w) (next sets₁ (set t (first + core) w) l₁ u)
         (bwalk b (ruleOf e P) (values P) rest (take (first + core) t₀ ++ w ∷ []) u)
     below t et el w lw sets₁ holds l₁ sized lefts u lu =
-        subst (λ p. Shows b (cells P) (suc (first + core)) (set t (first + core) w) l₁ (next sets₁ (set t (first + core) w) l₁ u) (bwalk b (ruleOf e P) (values P) rest p u))
+        subst (λ p. Shows b (cells P) (suc (first + core)) (set t (first + core) w) (next sets₁ (set t (first + core) w) l₁ u) (bwalk b (ruleOf e P) (values P) rest p u))
         (take-suc-set t (first + core) w (omega (arith, room, el)) ∙ ap (λ p. p ++ w ∷ []) et)
         (onward sets₁ (set t (first + core) w) l₁ u (after t et el w lw sets₁ holds l₁ sized lefts) lu)
 
+    -- the table with a value w in the cell
+    module _ (t : List ℕ) (et : take (first + core) t ≡ take (first + core) t₀) (el : length t ≡ length t₀) (w : ℕ) where
+      put-cell : nth (set t (first + core) w) (first + core) ≡ w
+      put-cell = getD-set-same t (first + core) w 0 (omega (arith, room, el))
+
+      put-prefix : take (first + core) (set t (first + core) w) ≡ take (first + core) t₀
+      put-prefix = take-set-le (first + core) t (first + core) w (omega arith) ∙ et
+
+      put-long : length (set t (first + core) w) ≡ length t₀
+      put-long = length-set t (first + core) w ∙ el
+
     -- idle, after the last task
-    idle-shows : (t : List ℕ) (barred u : ℕ) → take (first + core) t ≡ take (first + core) t₀ → length t ≡ length t₀
-        → ruleOf e P .tried (take (first + core) t₀) 0 ≡ eqb barred 0 → u ≤ b
-        → Shows b (cells P) (first + core) t₀ l (idleLast grid b first slot core sets next t l barred u)
+    idle-shows : (t : List ℕ) (u : ℕ) → take (first + core) t ≡ take (first + core) t₀ → length t ≡ length t₀
+        → ruleOf e P .tried (take (first + core) t₀) 0 ≡ not (barsIdle grid sets core) → u ≤ b
+        → Shows b (cells P) (first + core) t₀ (idleLast grid b first slot core sets next t l u)
         (btryAll (oneValue b (ruleOf e P) (values P) rest (take (first + core) t₀)) (0 ∷ []) u)
     unfolding idleLast toldAt
-    idle-shows t barred u et el h lu = elim (ℕ-discrete barred 0) [
-      | yes z ↦ elim (ℕ-discrete u b) [
-        | yes q ↦ shows-same {s = state Stopped t l u} (rw (eq-eqb barred 0 z, eq-eqb u b q)) (ap (λ a. bnext 0 a ends) (one-stops P e b rest (take (first + core) t₀) 0 u (h ∙ eq-eqb barred 0 z) q))
-            (record { answer = ap stopped q; prefix = et; long = el; most = lu; again = λ w. absurd (stopped-apart w) })
-        | no x ↦ shows-same {s = next sets (set t (first + core) 0) l (u + 1)} (rw (eq-eqb barred 0 z, ne-eqb u b x)) (ap (λ a. bnext 0 a ends) (one-goes P e b rest (take (first + core) t₀) 0 u (h ∙ eq-eqb barred 0 z) x lu))
-            (let r = next sets (set t (first + core) 0) l (u + 1) in
-            let s = below t et el 0 (omega arith) sets (sets-idle small ready (stands .first-is) (stands .slot-in) (stands .core-in) t (omega (arith, room, el)) (holds-same (first + core) t t₀ et (stands .holds))) l (stands .sized) (lefts-idle small ready (stands .first-is) (stands .slot-in) (stands .core-in) t l (omega (arith, room, el)) (lefts-same (first + core) t t₀ et P l (stands .lefts))) (u + 1) (omega arith) in
-            end-cases (r .end)
-            (λ w. record {
-              answer = ap (λ y. toldAt y (cells P) (first + core) (r .table) (r .tries)) w
-                  ∙ sym (below-none (cell-in stands) t₀ l s (getD-set-same t (first + core) 0 0 (omega (arith, room, el))) (take-set-le (first + core) t (first + core) 0 (omega arith) ∙ et) (length-set t (first + core) 0 ∙ el) room ends w);
-              prefix = before-prefix (cell-in stands) t₀ l s (getD-set-same t (first + core) 0 0 (omega (arith, room, el))) (take-set-le (first + core) t (first + core) 0 (omega arith) ∙ et) (length-set t (first + core) 0 ∙ el) room ends;
-              long = s .long ∙ length-set t (first + core) 0 ∙ el;
-              most = s .most;
-              again = s .again;
-            })
-            (λ w. below-ended (cell-in stands) t₀ l s (getD-set-same t (first + core) 0 0 (omega (arith, room, el))) (take-set-le (first + core) t (first + core) 0 (omega arith) ∙ et) (length-set t (first + core) 0 ∙ el) room ends w))
-      ]
-      | no z ↦ shows-same {s = state NoneFound t l u} (rw (ne-eqb barred 0 z)) (ap (λ a. bnext 0 a ends) (one-skips P e b rest (take (first + core) t₀) 0 u (h ∙ ne-eqb barred 0 z)))
-          (record { answer = refl; prefix = et; long = el; most = lu; again = λ w. refl })
-    ]
+    idle-shows t u et el h lu = go (barsIdle grid sets core) refl
       where
         ends : ℕ → Outcome
         ends u = ended (none u)
 
-    -- how many of the tasks before v may stand there and bar idle
-    barring : ℕ → ℕ
-    barring v = sum v (λ w. gate (has sets w core) (evenOn grid w))
+        -- the walk below it
+        r : State
+        r = next sets (set t (first + core) 0) l (u + 1)
+
+        tells : u ≢ b → Shows b (cells P) (suc (first + core)) (set t (first + core) 0) r (bwalk b (ruleOf e P) (values P) rest (take (first + core) t₀ ++ 0 ∷ []) (u + 1))
+        tells x = below t et el 0 (omega arith) sets
+            (sets-idle small ready (stands .first-is) (stands .slot-in) (stands .core-in) t (omega (arith, room, el)) (holds-same (first + core) t t₀ et (stands .holds))) l (stands .sized)
+            (lefts-idle small ready (stands .first-is) (stands .slot-in) (stands .core-in) t l (omega (arith, room, el)) (lefts-same (first + core) t t₀ et P l (stands .lefts))) (u + 1) (omega arith)
+
+        go : (x : Bool) → barsIdle grid sets core ≡ x
+            → Shows b (cells P) (first + core) t₀ (cond (barsIdle grid sets core) (state NoneFound t l u) (oneMore b t l u r)) (btryAll (oneValue b (ruleOf e P) (values P) rest (take (first + core) t₀)) (0 ∷ []) u)
+        go true z = shows-same {s = state NoneFound t l u} (rw z) (ap (λ a. bnext 0 a ends) (one-skips P e b rest (take (first + core) t₀) 0 u (h ∙ ap not z)))
+            (record { answer = refl; prefix = et; long = el; most = lu })
+        go false z = elim (ℕ-discrete u b) [
+          | yes q ↦ shows-same {s = state Stopped t l u} (rw (z, eq-eqb u b q)) (ap (λ a. bnext 0 a ends) (one-stops P e b rest (take (first + core) t₀) 0 u (h ∙ ap not z) q))
+              (record { answer = ap stopped q; prefix = et; long = el; most = lu })
+          | no x ↦ shows-same {s = r} (rw (z, ne-eqb u b x)) (ap (λ a. bnext 0 a ends) (one-goes P e b rest (take (first + core) t₀) 0 u (h ∙ ap not z) x lu))
+              (end-cases (r .end)
+              (λ w. record {
+                answer = ap (λ y. toldAt y (cells P) (first + core) (r .table) (r .tries)) w ∙ sym (below-none (cell-in stands) t₀ (tells x) (put-cell t et el 0) (put-prefix t et el 0) (put-long t et el 0) room ends w);
+                prefix = before-prefix (cell-in stands) t₀ (tells x) (put-cell t et el 0) (put-prefix t et el 0) (put-long t et el 0) room ends;
+                long = tells x .long ∙ put-long t et el 0;
+                most = tells x .most;
+              })
+              (λ w. below-ended (cell-in stands) t₀ (tells x) (put-cell t et el 0) (put-prefix t et el 0) (put-long t et el 0) room ends w))
+        ]
 
     -- what is still to be tried of the cell's values, from v + 1 on, tells what is left of the rule's values
-    Tells : ℕ → ℕ → List ℕ → ℕ → ℕ → Type 0
-    Tells j v t barred u = Shows b (cells P) (first + core) t₀ l (tryFrom grid b first slot core sets next j (floorOn grid t₀ first core) t l v barred u)
+    Tells : ℕ → ℕ → List ℕ → ℕ → Type 0
+    Tells j v t u = Shows b (cells P) (first + core) t₀ (tryFrom grid b first slot core sets next j (floorOn grid t₀ first core) t l v u)
         (btryAll (oneValue b (ruleOf e P) (values P) rest (take (first + core) t₀)) (upTo j (suc v)) u)
 
     -- one task
-    module _ (j v : ℕ) (lv : v < P .tasks) (t : List ℕ) (barred u : ℕ) (et : take (first + core) t ≡ take (first + core) t₀) (el : length t ≡ length t₀)
-        (hb : barred ≡ barring v) (lu : u ≤ b)
-        (ih : (t′ : List ℕ) (barred′ u′ : ℕ) → take (first + core) t′ ≡ take (first + core) t₀ → length t′ ≡ length t₀ → barred′ ≡ barring (suc v) → u′ ≤ b → Tells j (suc v) t′ barred′ u′) where
+    module _ (j v : ℕ) (lv : v < P .tasks) (t : List ℕ) (u : ℕ) (et : take (first + core) t ≡ take (first + core) t₀) (el : length t ≡ length t₀) (lu : u ≤ b)
+        (ih : (t′ : List ℕ) (u′ : ℕ) → take (first + core) t′ ≡ take (first + core) t₀ → length t′ ≡ length t₀ → u′ ≤ b → Tells j (suc v) t′ u′) where
       others : ℕ → Outcome
       others = btryAll (oneValue b (ruleOf e P) (values P) rest (take (first + core) t₀)) (upTo j (suc (suc v)))
 
@@ -249,125 +257,97 @@ module _ {P : Instance} (small : Small P) (e b : ℕ) (grid : List ℕ) (ready :
       is-tried : ruleOf e P .tried (take (first + core) t₀) (suc v) ≡ has sets v core && leb (floorOn grid t₀ first core) (v + 1)
       is-tried = task-tried small grid (stands .first-is) (stands .slot-in) (stands .core-in) t₀ (omega (arith, room)) (stands .holds) e ready v lv
 
-      -- it may not stand there
-      not-there : has sets v core ≡ false → Tells (suc j) v t barred u
-      unfolding Tells barring sum gate others
-      not-there p = shows-same {s = tryFrom grid b first slot core sets next j (floorOn grid t₀ first core) t l (suc v) barred u}
-          (skip grid b first slot core sets next j (floorOn grid t₀ first core) t l v barred u p
-          ∙ ap (λ x. tryFrom grid b first slot core sets next j (floorOn grid t₀ first core) t l x barred u) (add-one v))
-          (ap (λ a. bnext (suc v) a others) (one-skips P e b rest (take (first + core) t₀) (suc v) u (is-tried ∙ ap (λ x. x && leb (floorOn grid t₀ first core) (v + 1)) p)))
-          (ih t barred u et el (hb ∙ sym (rw p (add-zero _))) lu)
+      -- it is not
+      not-tried : has sets v core && leb (floorOn grid t₀ first core) (v + 1) ≡ false → Tells (suc j) v t u
+      unfolding Tells others
+      not-tried p = shows-same {s = tryFrom grid b first slot core sets next j (floorOn grid t₀ first core) t l (suc v) u}
+          (skip grid b first slot core sets next j (floorOn grid t₀ first core) t l v u p
+          ∙ ap (λ x. tryFrom grid b first slot core sets next j (floorOn grid t₀ first core) t l x u) (add-one v))
+          (ap (λ a. bnext (suc v) a others) (one-skips P e b rest (take (first + core) t₀) (suc v) u (is-tried ∙ p)))
+          (ih t u et el lu)
 
-      module _ (p : has sets v core ≡ true) where
-        -- one more that may bar idle
-        one-more : barred + evenOn grid v ≡ barring (suc v)
-        unfolding barring sum gate
-        one-more = rw p (ap (λ x. x + evenOn grid v) hb)
+      -- it is
+      module _ (p : has sets v core && leb (floorOn grid t₀ first core) (v + 1) ≡ true) where
+        -- the limit does not allow it
+        out : u ≡ b → Tells (suc j) v t u
+        unfolding Tells others toldAt
+        out z = shows-same {s = state Stopped t l u}
+            (stop grid b first slot core sets next j (floorOn grid t₀ first core) t l v u p z)
+            (ap (λ a. bnext (suc v) a others) (one-stops P e b rest (take (first + core) t₀) (suc v) u (is-tried ∙ p) z))
+            (record { answer = ap stopped z; prefix = et; long = el; most = lu })
 
-        -- rule B bars it
-        by-B : leb (floorOn grid t₀ first core) (v + 1) ≡ false → Tells (suc j) v t barred u
-        unfolding Tells others
-        by-B q = shows-same {s = tryFrom grid b first slot core sets next j (floorOn grid t₀ first core) t l (suc v) (barred + evenOn grid v) u}
-            (barred-by-B grid b first slot core sets next j (floorOn grid t₀ first core) t l v barred u p (leb-false _ _ q)
-            ∙ ap (λ x. tryFrom grid b first slot core sets next j (floorOn grid t₀ first core) t l x (barred + evenOn grid v) u) (add-one v))
-            (ap (λ a. bnext (suc v) a others) (one-skips P e b rest (take (first + core) t₀) (suc v) u (is-tried ∙ rw (p, q))))
-            (ih t (barred + evenOn grid v) u et el one-more lu)
+        -- it is put into the cell
+        module _ (z : u ≢ b) where
+          l₁ : List ℕ
+          l₁ = set l (counterOn grid slot v) (nth l (counterOn grid slot v) - rateOn grid v core)
 
-        module _ (q : leb (floorOn grid t₀ first core) (v + 1) ≡ true) where
-          yes-tried : ruleOf e P .tried (take (first + core) t₀) (suc v) ≡ true
-          yes-tried = is-tried ∙ rw (p, q)
+          r : State
+          r = next (without sets v) (set t (first + core) (v + 1)) l₁ (u + 1)
 
-          -- the limit does not allow it
-          out : u ≡ b → Tells (suc j) v t barred u
-          unfolding Tells others toldAt
-          out z = shows-same {s = state Stopped t l u}
-              (stop grid b first slot core sets next j (floorOn grid t₀ first core) t l v barred u p (leb-true _ _ q) z)
-              (ap (λ a. bnext (suc v) a others) (one-stops P e b rest (take (first + core) t₀) (suc v) u yes-tried z))
-              (record { answer = ap stopped z; prefix = et; long = el; most = lu; again = λ w. absurd (stopped-apart w) })
+          -- what the walk below it tells
+          tells-below : Shows b (cells P) (suc (first + core)) (set t (first + core) (v + 1)) r
+              (bwalk b (ruleOf e P) (values P) rest (take (first + core) t₀ ++ (v + 1) ∷ []) (u + 1))
+          unfolding l₁ r
+          tells-below = below t et el (v + 1) (omega arith) (without sets v)
+              (sets-put small ready (stands .first-is) (stands .slot-in) (stands .core-in) t (omega (arith, room, el)) holds v (omega (arith, small .few-tasks))) l₁ (length-set l _ _ ∙ stands .sized)
+              (lefts-put small ready (stands .first-is) (stands .slot-in) (stands .core-in) t l (omega (arith, room, el)) (stands .sized) lefts v lv
+              (open-tells small ready (stands .first-is) (stands .slot-in) (stands .core-in) (nth t) holds v lv (and-left _ _ p)))
+              (u + 1) (omega arith)
+            where
+              lefts : Lefts P (first + core) (nth t) l
+              lefts = lefts-same (first + core) t t₀ et P l (stands .lefts)
 
-          -- it is put into the cell
-          module _ (z : u ≢ b) where
-            l₁ : List ℕ
-            l₁ = set l (counterOn grid slot v) (nth l (counterOn grid slot v) - rateOn grid v core)
+              holds : Sets P slot core (first + core) (nth t) sets
+              holds = holds-same (first + core) t t₀ et (stands .holds)
 
-            r : State
-            r = next (without sets v) (set t (first + core) (v + 1)) l₁ (u + 1)
+          -- the counter is given back what it was
+          again : r .end ≡ NoneFound → set (r .left) (counterOn grid slot v) (nth l (counterOn grid slot v)) ≡ l
+          unfolding l₁ r
+          again w = ap (λ x. set x (counterOn grid slot v) (nth l (counterOn grid slot v))) (keeps (without sets v) (set t (first + core) (v + 1)) l₁ (u + 1) w) ∙ given-back l (counterOn grid slot v) _
 
-            -- what the walk below it tells
-            tells-below : Shows b (cells P) (suc (first + core)) (set t (first + core) (v + 1)) l₁ r
-                (bwalk b (ruleOf e P) (values P) rest (take (first + core) t₀ ++ (v + 1) ∷ []) (u + 1))
-            unfolding l₁ r
-            tells-below = below t et el (v + 1) (omega arith) (without sets v)
-                (sets-put small ready (stands .first-is) (stands .slot-in) (stands .core-in) t (omega (arith, room, el)) holds v (omega (arith, small .few-tasks))) l₁ (length-set l _ _ ∙ stands .sized)
-                (lefts-put small ready (stands .first-is) (stands .slot-in) (stands .core-in) t l (omega (arith, room, el)) (stands .sized) lefts v lv
-                (open-tells small ready (stands .first-is) (stands .slot-in) (stands .core-in) (nth t) holds v lv p))
-                (u + 1) (omega arith)
-              where
-                lefts : Lefts P (first + core) (nth t) l
-                lefts = lefts-same (first + core) t t₀ et P l (stands .lefts)
+          -- the walk below it is what the rule's value gives
+          value-is : oneValue b (ruleOf e P) (values P) rest (take (first + core) t₀) (suc v) u
+              ≡ bwalk b (ruleOf e P) (values P) rest (take (first + core) t₀ ++ (v + 1) ∷ []) (u + 1)
+          value-is = one-goes P e b rest (take (first + core) t₀) (suc v) u (is-tried ∙ p) z lu
+              ∙ ap (λ w. bwalk b (ruleOf e P) (values P) rest (take (first + core) t₀ ++ w ∷ []) (u + 1)) (sym (add-one v))
 
-                holds : Sets P slot core (first + core) (nth t) sets
-                holds = holds-same (first + core) t t₀ et (stands .holds)
+          cell-is : nth (set t (first + core) (v + 1)) (first + core) ≡ suc v
+          cell-is = put-cell t et el (v + 1) ∙ add-one v
 
-            -- the counter is given back what it was
-            given-back : r .end ≡ NoneFound → set (r .left) (counterOn grid slot v) (nth l (counterOn grid slot v)) ≡ l
-            unfolding l₁
-            given-back w = ap (λ x. set x (counterOn grid slot v) (nth l (counterOn grid slot v))) (tells-below .again w)
-                ∙ set-set l (counterOn grid slot v) _ _ ∙ set-getD l (counterOn grid slot v) 0
+          in-cell : Tells (suc j) v t u
+          unfolding Tells others l₁ r placed
+          in-cell = end-cases (r .end)
+              (λ w. shows-same {s = tryFrom grid b first slot core sets next j (floorOn grid t₀ first core) (r .table) l (suc v) (r .tries)}
+              (back grid b first slot core sets next j (floorOn grid t₀ first core) t l v u p z r refl w
+              ∙ (λ i. tryFrom grid b first slot core sets next j (floorOn grid t₀ first core) (r .table) (again w i) (add-one v i) (r .tries)))
+              (ap (λ a. bnext (suc v) a others) value-is ∙ below-none (cell-in stands) t₀ tells-below cell-is (put-prefix t et el (v + 1)) (put-long t et el (v + 1)) room others w)
+              (ih (r .table) (r .tries) (before-prefix (cell-in stands) t₀ tells-below cell-is (put-prefix t et el (v + 1)) (put-long t et el (v + 1)) room others)
+              (tells-below .long ∙ put-long t et el (v + 1)) (tells-below .most)))
+              (λ w. shows-same {s = r}
+              (tried grid b first slot core sets next j (floorOn grid t₀ first core) t l v u p z r refl ∙ ended-stays (r .end) r _ w)
+              (ap (λ a. bnext (suc v) a others) value-is)
+              (below-ended (cell-in stands) t₀ tells-below cell-is (put-prefix t et el (v + 1)) (put-long t et el (v + 1)) room others w))
 
-            -- the walk below it is what the rule's value gives
-            value-is : oneValue b (ruleOf e P) (values P) rest (take (first + core) t₀) (suc v) u
-                ≡ bwalk b (ruleOf e P) (values P) rest (take (first + core) t₀ ++ (v + 1) ∷ []) (u + 1)
-            value-is = one-goes P e b rest (take (first + core) t₀) (suc v) u yes-tried z lu
-                ∙ ap (λ w. bwalk b (ruleOf e P) (values P) rest (take (first + core) t₀ ++ w ∷ []) (u + 1)) (sym (add-one v))
+        one-tried : Tells (suc j) v t u
+        one-tried = elim (ℕ-discrete u b) [ yes z ↦ out z | no x ↦ in-cell x ]
 
-            cell-is : nth (set t (first + core) (v + 1)) (first + core) ≡ suc v
-            cell-is = getD-set-same t (first + core) (v + 1) 0 (omega (arith, room, el)) ∙ add-one v
-
-            prefix-is : take (first + core) (set t (first + core) (v + 1)) ≡ take (first + core) t₀
-            prefix-is = take-set-le (first + core) t (first + core) (v + 1) (omega arith) ∙ et
-
-            long-is : length (set t (first + core) (v + 1)) ≡ length t₀
-            long-is = length-set t (first + core) (v + 1) ∙ el
-
-            in-cell : Tells (suc j) v t barred u
-            unfolding Tells others l₁ r placed
-            in-cell = end-cases (r .end)
-                (λ w. shows-same {s = tryFrom grid b first slot core sets next j (floorOn grid t₀ first core) (r .table) l (suc v) (barred + evenOn grid v) (r .tries)}
-                (back grid b first slot core sets next j (floorOn grid t₀ first core) t l v barred u p (leb-true _ _ q) z r refl w
-                ∙ (λ i. tryFrom grid b first slot core sets next j (floorOn grid t₀ first core) (r .table) (given-back w i) (add-one v i) (barred + evenOn grid v) (r .tries)))
-                (ap (λ a. bnext (suc v) a others) value-is ∙ below-none (cell-in stands) t₀ l tells-below cell-is prefix-is long-is room others w)
-                (ih (r .table) (barred + evenOn grid v) (r .tries) (before-prefix (cell-in stands) t₀ l tells-below cell-is prefix-is long-is room others)
-                (tells-below .long ∙ long-is) one-more (tells-below .most)))
-                (λ w. shows-same {s = r}
-                (tried grid b first slot core sets next j (floorOn grid t₀ first core) t l v barred u p (leb-true _ _ q) z r refl ∙ ended-stays (r .end) r _ w)
-                (ap (λ a. bnext (suc v) a others) value-is)
-                (below-ended (cell-in stands) t₀ l tells-below cell-is prefix-is long-is room others w))
-
-          one-tried : Tells (suc j) v t barred u
-          one-tried = elim (ℕ-discrete u b) [ yes z ↦ out z | no x ↦ in-cell x ]
-
-      one-task : Tells (suc j) v t barred u
-      one-task = go (has sets v core) refl (leb (floorOn grid t₀ first core) (v + 1)) refl
+      one-task : Tells (suc j) v t u
+      one-task = go (has sets v core && leb (floorOn grid t₀ first core) (v + 1)) refl
         where
-          go : (p : Bool) → has sets v core ≡ p → (q : Bool) → leb (floorOn grid t₀ first core) (v + 1) ≡ q → Tells (suc j) v t barred u
-          go false p q h = not-there p
-          go true p false h = by-B p h
-          go true p true h = one-tried p h
+          go : (p : Bool) → has sets v core && leb (floorOn grid t₀ first core) (v + 1) ≡ p → Tells (suc j) v t u
+          go false p = not-tried p
+          go true p = one-tried p
 
     -- all values
-    values-tell : (j v : ℕ) (t : List ℕ) (barred u : ℕ) → v + j ≡ P .tasks → take (first + core) t ≡ take (first + core) t₀ → length t ≡ length t₀
-        → barred ≡ barring v → u ≤ b → Tells j v t barred u
-    unfolding Tells tryFrom barring
-    values-tell zero v t barred u ev et el hb lu = idle-shows t barred u et el
-        (idle-tried small grid (stands .first-is) (stands .slot-in) (stands .core-in) t₀ (omega (arith, room)) (stands .holds) e ready (stands .known)
-        ∙ ap (λ x. eqb x 0) (ap (λ n. sum n (λ w. gate (has sets w core) (evenOn grid w))) (ready .tasks ∙ omega arith) ∙ sym hb)) lu
-    values-tell (suc j) v t barred u ev et el hb lu = one-task j v (omega arith) t barred u et el hb lu (λ t′ barred′ u′. values-tell j (suc v) t′ barred′ u′ (omega arith))
+    values-tell : (j v : ℕ) (t : List ℕ) (u : ℕ) → v + j ≡ P .tasks → take (first + core) t ≡ take (first + core) t₀ → length t ≡ length t₀ → u ≤ b → Tells j v t u
+    unfolding Tells tryFrom
+    values-tell zero v t u ev et el lu = idle-shows t u et el
+        (idle-tried small grid (stands .first-is) (stands .slot-in) (stands .core-in) t₀ (omega (arith, room)) (stands .holds) e ready (stands .known)) lu
+    values-tell (suc j) v t u ev et el lu = one-task j v (omega arith) t u et el lu (λ t′ u′. values-tell j (suc v) t′ u′ (omega arith))
 
     -- the whole cell
-    cell-tells : (u : ℕ) → u ≤ b → Tells (P .tasks) 0 t₀ 0 u
-    unfolding barring sum
-    cell-tells u lu = values-tell (P .tasks) 0 t₀ 0 u (omega arith) refl refl refl lu
+    cell-tells : (u : ℕ) → u ≤ b → Tells (P .tasks) 0 t₀ u
+    cell-tells u lu = values-tell (P .tasks) 0 t₀ u (omega arith) refl refl lu
 
   -- ---- from cell to cell
   -- the walk under the limit behind a test that passes or fails
@@ -388,7 +368,7 @@ module _ {P : Instance} (small : Small P) (e b : ℕ) (grid : List ℕ) (ready :
   -- from a cell with k cells left, this one among them, the arrays' walk tells what the rule's values do
   Goes : ℕ → Type 0
   Goes k = (first slot core sets : ℕ) (t l : List ℕ) → Before P first slot core sets t l → (u : ℕ) → u ≤ b → k + (first + core) ≡ cells P
-      → Shows b (cells P) (first + core) t l (walkOn k grid b first slot core sets t l u) (btryAll (oneValue b (ruleOf e P) (values P) (pred k) (take (first + core) t)) (values P) u)
+      → Shows b (cells P) (first + core) t (walkOn k grid b first slot core sets t l u) (btryAll (oneValue b (ruleOf e P) (values P) (pred k) (take (first + core) t)) (values P) u)
 
   module _ (rest : ℕ) (goes : Goes rest) {first slot core : ℕ} (ef : first ≡ slot * P .cores) (ls : slot < P .slots) (lc : core < P .cores)
       (er : rest + suc (first + core) ≡ cells P) (sets : ℕ) (t l : List ℕ) (after : After P first slot core sets t l) (u : ℕ) (lu : u ≤ b) where
@@ -399,7 +379,7 @@ module _ {P : Instance} (small : Small P) (e b : ℕ) (grid : List ℕ) (ready :
     -- the next cell, of core `core′` in the slot that begins at `first′`, is cell c
     next-cell : (c first′ slot′ core′ sets′ : ℕ) → Sets P slot′ core′ (suc (first + core)) (nth t) sets′ → c ≡ first′ + core′ → c ≡ suc (first + core) → first′ ≡ slot′ * P .cores → slot′ < P .slots → core′ < P .cores → c < cells P
         → ruleOf e P .goesOn (take (suc (first + core)) t) ≡ true
-        → Shows b (cells P) (suc (first + core)) t l (walkOn rest grid b first′ slot′ core′ sets′ t l u) (bwalk b (ruleOf e P) (values P) rest (take (suc (first + core)) t) u)
+        → Shows b (cells P) (suc (first + core)) t (walkOn rest grid b first′ slot′ core′ sets′ t l u) (bwalk b (ruleOf e P) (values P) rest (take (suc (first + core)) t) u)
     unfolding Goes
     next-cell c first′ slot′ core′ sets′ holds ec es ef′ ls′ lc′ lt h = go rest goes er
       where
@@ -416,14 +396,14 @@ module _ {P : Instance} (small : Small P) (e b : ℕ) (grid : List ℕ) (ready :
         }
 
         go : (k : ℕ) → Goes k → k + suc (first + core) ≡ cells P
-            → Shows b (cells P) (suc (first + core)) t l (walkOn k grid b first′ slot′ core′ sets′ t l u) (bwalk b (ruleOf e P) (values P) k (take (suc (first + core)) t) u)
+            → Shows b (cells P) (suc (first + core)) t (walkOn k grid b first′ slot′ core′ sets′ t l u) (bwalk b (ruleOf e P) (values P) k (take (suc (first + core)) t) u)
         go zero g ek = absurd (omega arith)
         go (suc k) g ek = shows-same refl (bwalk-in k (take (suc (first + core)) t) u h)
-            (subst (λ x. Shows b (cells P) x t l (walkOn (suc k) grid b first′ slot′ core′ sets′ t l u) (btryAll (oneValue b (ruleOf e P) (values P) k (take x t)) (values P) u))
+            (subst (λ x. Shows b (cells P) x t (walkOn (suc k) grid b first′ slot′ core′ sets′ t l u) (btryAll (oneValue b (ruleOf e P) (values P) k (take x t)) (values P) u))
             (sym ec ∙ es) (g first′ slot′ core′ sets′ t l stands u lu (omega arith)))
 
     -- one more core in the slot
-    next-core : core + 1 < P .cores → Shows b (cells P) (suc (first + core)) t l (afterCell grid (walkOn rest grid b) first slot (core + 1) sets t l u)
+    next-core : core + 1 < P .cores → Shows b (cells P) (suc (first + core)) t (afterCell grid (walkOn rest grid b) first slot (core + 1) sets t l u)
         (bwalk b (ruleOf e P) (values P) rest (take (suc (first + core)) t) u)
     unfolding afterCell
     next-core h = shows-same {s = walkOn rest grid b first slot (core + 1) sets t l u} (rw (lt-ltb (core + 1) (coresOn grid) (rw (ready .cores) h))) refl
@@ -435,14 +415,14 @@ module _ {P : Instance} (small : Small P) (e b : ℕ) (grid : List ℕ) (ready :
       slot-ends : allSettledOn grid l slot ≡ ruleOf e P .goesOn (take (suc (first + core)) t)
       slot-ends = all-settled-is small ready ls (suc (first + core)) (nth t) l (after .lefts) (omega (arith, ef)) ∙ sym goes-at
 
-      starved-slot : allSettledOn grid l slot ≡ false → Shows b (cells P) (suc (first + core)) t l (afterCell grid (walkOn rest grid b) first slot (core + 1) sets t l u)
+      starved-slot : allSettledOn grid l slot ≡ false → Shows b (cells P) (suc (first + core)) t (afterCell grid (walkOn rest grid b) first slot (core + 1) sets t l u)
           (bwalk b (ruleOf e P) (values P) rest (take (suc (first + core)) t) u)
       unfolding afterCell toldAt
       starved-slot z = shows-same {s = state NoneFound t l u} (rw (le-ltb (core + 1) (coresOn grid) (rw (ready .cores) h), z))
           (bwalk-shut rest (take (suc (first + core)) t) u (sym slot-ends ∙ z))
-          (record { answer = refl; prefix = refl; long = refl; most = lu; again = λ _. refl })
+          (record { answer = refl; prefix = refl; long = refl; most = lu })
 
-      settled-slot : allSettledOn grid l slot ≡ true → Shows b (cells P) (suc (first + core)) t l (afterCell grid (walkOn rest grid b) first slot (core + 1) sets t l u)
+      settled-slot : allSettledOn grid l slot ≡ true → Shows b (cells P) (suc (first + core)) t (afterCell grid (walkOn rest grid b) first slot (core + 1) sets t l u)
           (bwalk b (ruleOf e P) (values P) rest (take (suc (first + core)) t) u)
       unfolding afterCell toldAt
       settled-slot z = ⊎-elim
@@ -460,16 +440,15 @@ module _ {P : Instance} (small : Small P) (e b : ℕ) (grid : List ℕ) (ready :
             prefix = refl;
             long = refl;
             most = lu;
-            again = λ w. absurd (found-apart w);
           }))
           (lt-or-ge (slot + 1) (P .slots))
 
     -- after a cell
-    after-tells : Shows b (cells P) (suc (first + core)) t l (afterCell grid (walkOn rest grid b) first slot (core + 1) sets t l u)
+    after-tells : Shows b (cells P) (suc (first + core)) t (afterCell grid (walkOn rest grid b) first slot (core + 1) sets t l u)
         (bwalk b (ruleOf e P) (values P) rest (take (suc (first + core)) t) u)
     after-tells = ⊎-elim next-core (λ h. go h (allSettledOn grid l slot) refl) (lt-or-ge (core + 1) (P .cores))
       where
-        go : P .cores ≤ core + 1 → (x : Bool) → allSettledOn grid l slot ≡ x → Shows b (cells P) (suc (first + core)) t l (afterCell grid (walkOn rest grid b) first slot (core + 1) sets t l u)
+        go : P .cores ≤ core + 1 → (x : Bool) → allSettledOn grid l slot ≡ x → Shows b (cells P) (suc (first + core)) t (afterCell grid (walkOn rest grid b) first slot (core + 1) sets t l u)
             (bwalk b (ruleOf e P) (values P) rest (take (suc (first + core)) t) u)
         go h false z = starved-slot h z
         go h true z = settled-slot h z
@@ -479,9 +458,9 @@ module _ {P : Instance} (small : Small P) (e b : ℕ) (grid : List ℕ) (ready :
   unfolding Goes walkOn Tells
   walk-goes zero first slot core sets t l stands u lu ek = absurd (omega (arith, cell-in stands))
   walk-goes (suc rest) first slot core sets t l stands u lu ek =
-      shows-same {s = tryFrom grid b first slot core sets (afterCell grid (walkOn rest grid b) first slot (core + 1)) (P .tasks) (floorOn grid t first core) t l 0 0 u}
-      (ap (λ n. tryFrom grid b first slot core sets (afterCell grid (walkOn rest grid b) first slot (core + 1)) n (floorOn grid t first core) t l 0 0 u) (ready .tasks)) refl
-      (cell-tells stands rest (afterCell grid (walkOn rest grid b) first slot (core + 1))
+      shows-same {s = tryFrom grid b first slot core sets (afterCell grid (walkOn rest grid b) first slot (core + 1)) (P .tasks) (floorOn grid t first core) t l 0 u}
+      (ap (λ n. tryFrom grid b first slot core sets (afterCell grid (walkOn rest grid b) first slot (core + 1)) n (floorOn grid t first core) t l 0 u) (ready .tasks)) refl
+      (cell-tells stands rest (afterCell grid (walkOn rest grid b) first slot (core + 1)) (after-keeps grid (walkOn rest grid b) (walk-keeps rest grid b) first slot (core + 1))
       (λ sets₁ t₁ l₁ u₁ after lu₁. after-tells rest (walk-goes rest) (stands .first-is) (stands .slot-in) (stands .core-in) (omega arith) sets₁ t₁ l₁ after u₁ lu₁) u lu)
 
   -- before the first cell no job ends
@@ -492,7 +471,7 @@ module _ {P : Instance} (small : Small P) (e b : ℕ) (grid : List ℕ) (ready :
 
   -- the walk over the whole table, with u tries counted before it, is the engine's under the limit
   pub walk-limited : (t l : List ℕ) → Lefts P 0 (nth t) l → cells P ≤ length t → length l ≡ 16385 → (u : ℕ) → u ≤ b
-      → Shows b (cells P) 0 t l (walkOn (cells P) grid b 0 0 0 (setsOn grid l 0) t l u) (limited b (spend u (walked e P)))
+      → Shows b (cells P) 0 t (walkOn (cells P) grid b 0 0 0 (setsOn grid l 0) t l u) (limited b (spend u (walked e P)))
   unfolding Goes
   walk-limited t l lefts long sized u lu = shows-same refl (sym (bwalk-from b (ruleOf e P) (values P) (cells P) [] u lu)) (go (cells P) (omega arith) some)
     where
@@ -511,6 +490,6 @@ module _ {P : Instance} (small : Small P) (e b : ℕ) (grid : List ℕ) (ready :
         sized = sized;
       }
 
-      go : (k : ℕ) → k + (0 + 0) ≡ cells P → 0 < k → Shows b (cells P) 0 t l (walkOn k grid b 0 0 0 (setsOn grid l 0) t l u) (bwalk b (ruleOf e P) (values P) k [] u)
+      go : (k : ℕ) → k + (0 + 0) ≡ cells P → 0 < k → Shows b (cells P) 0 t (walkOn k grid b 0 0 0 (setsOn grid l 0) t l u) (bwalk b (ruleOf e P) (values P) k [] u)
       go zero ek pos = absurd (omega arith)
       go (suc k) ek pos = shows-same refl (bwalk-in k [] u (goes-prefix P e 0 t (omega arith) ∙ settled-start (nth t))) (walk-goes (suc k) 0 0 0 (setsOn grid l 0) t l stands u lu ek)

@@ -4,7 +4,7 @@ use Prim.Native.Nat.{ℕ, zero, suc, _+_, _*_, _-_, _/_, _%_, _^_, _≤_, _<_}
 use native.Mathlib.Omega.{arith}
 use native.Mathlib.Nat.{add-zero, add-suc, zero-add, mul-le-mul-right}
 use native.Mathlib.Decide.{ℕ-discrete}
-use lib.Dec.{eqb}
+use lib.Dec.{leb, eqb}
 use Rattle.laws.proofs.SumLaws.{lt-or-ge}
 use mathlib.Core.Path.{_≡_, refl, sym, ap, subst, _∙_}
 use mathlib.Core.Logic.{_≢_, inl, inr}
@@ -16,9 +16,10 @@ use Rattle.laws.specs.Lists.{nth}
 use lib.Count.{trailing-of-zero}
 use Rattle.sets.specs.Sets.{has, ofCore, lowest, without, Alone}
 use Rattle.sets.proofs.SetLaws.{none-has, of-core-has, of-core-alone, of-core-lt, without-has, without-alone, without-lt, lowest-in, lowest-first}
-use Rattle.grid.proofs.ReadLaws.{at-slot, sets-none}
-use Rattle.grid.specs.Grid.{counterOn, rateOn, evenOn, tasksOn, coresOn, slotsOn, cellsOn, setsOn, floorOn, allSettledOn, OnGrid}
+use Rattle.grid.proofs.ReadLaws.{at-slot, sets-none, due-starves, due-still, none-starved, due-only-last}
+use Rattle.grid.specs.Grid.{counterOn, rateOn, tasksOn, coresOn, slotsOn, cellsOn, setsOn, barsIdle, floorOn, allSettledOn, noneDue, firstDueOn, dueOn, OnGrid}
 use Rattle.walk.specs.Machine.{End, Found, NoneFound, Stopped, walkNumber, State, state, Onward, unlessEnded, idleLast, placed, tryFrom, afterCell, walkOn, Stands, firstOn, cellsLeft, full, Leaves, Ran, RanAfter}
+use Rattle.walk.proofs.KeepLaws.{given-back, KeepsOn, after-keeps, walk-keeps}
 
 -- ---- where the walk stands
 module _ {grid : List ℕ} (place : ℕ) (fits : OnGrid grid (place / 4)) where
@@ -85,62 +86,59 @@ told : {limit : ℕ} (e : End) (t l : List ℕ) (u : ℕ) → u ≤ limit → Le
 told e t l u m = record { answer = refl; table = refl; left = refl; most = m }
 
 -- ---- one value
-module _ (grid : List ℕ) (limit first slot core sets : ℕ) (next : Onward) (j floor : ℕ) (t l : List ℕ) (v barred u : ℕ) where
-  -- it may not stand there
-  pub skip : has sets v core ≡ false
-      → tryFrom grid limit first slot core sets next (suc j) floor t l v barred u ≡ tryFrom grid limit first slot core sets next j floor t l (v + 1) barred u
+module _ (grid : List ℕ) (limit first slot core sets : ℕ) (next : Onward) (j floor : ℕ) (t l : List ℕ) (v u : ℕ) where
+  -- it is not tried
+  pub skip : has sets v core && leb floor (v + 1) ≡ false
+      → tryFrom grid limit first slot core sets next (suc j) floor t l v u ≡ tryFrom grid limit first slot core sets next j floor t l (v + 1) u
   unfolding tryFrom
   skip h = rw h
 
-  module _ (p : has sets v core ≡ true) where
-    -- rule B bars it
-    pub barred-by-B : v + 1 < floor
-        → tryFrom grid limit first slot core sets next (suc j) floor t l v barred u ≡ tryFrom grid limit first slot core sets next j floor t l (v + 1) (barred + evenOn grid v) u
+  module _ (p : has sets v core && leb floor (v + 1) ≡ true) where
+    -- the limit is used up
+    pub stop : u ≡ limit → tryFrom grid limit first slot core sets next (suc j) floor t l v u ≡ state Stopped t l u
     unfolding tryFrom
-    barred-by-B h = rw (p, lt-leb floor (v + 1) h)
+    stop e = rw (p, eq-eqb u limit e)
 
-    module _ (h : floor ≤ v + 1) where
-      -- the limit is used up
-      pub stop : u ≡ limit → tryFrom grid limit first slot core sets next (suc j) floor t l v barred u ≡ state Stopped t l u
+    module _ (e : u ≢ limit) (r : State) (is : placed grid limit first slot core sets next t l v u ≡ r) where
+      pub tried : tryFrom grid limit first slot core sets next (suc j) floor t l v u
+          ≡ unlessEnded (r .end) r (λ s. tryFrom grid limit first slot core sets next j floor (s .table) (set (s .left) (counterOn grid slot v) (nth l (counterOn grid slot v))) (v + 1) (s .tries))
       unfolding tryFrom
-      stop e = rw (p, le-leb floor (v + 1) h, eq-eqb u limit e)
+      tried = rw (p, ne-eqb u limit e, is)
 
-      module _ (e : u ≢ limit) (r : State) (is : placed grid limit first slot core sets next t l v u ≡ r) where
-        pub tried : tryFrom grid limit first slot core sets next (suc j) floor t l v barred u
-            ≡ unlessEnded (r .end) r (λ s. tryFrom grid limit first slot core sets next j floor (s .table) (set (s .left) (counterOn grid slot v) (nth l (counterOn grid slot v))) (v + 1) (barred + evenOn grid v) (s .tries))
-        unfolding tryFrom
-        tried = rw (p, le-leb floor (v + 1) h, ne-eqb u limit e, is)
+      -- nothing is found below it
+      pub back : r .end ≡ NoneFound → tryFrom grid limit first slot core sets next (suc j) floor t l v u
+          ≡ tryFrom grid limit first slot core sets next j floor (r .table) (set (r .left) (counterOn grid slot v) (nth l (counterOn grid slot v))) (v + 1) (r .tries)
+      back n = tried ∙ ap (λ (x : End). unlessEnded x r (λ s. tryFrom grid limit first slot core sets next j floor (s .table) (set (s .left) (counterOn grid slot v) (nth l (counterOn grid slot v))) (v + 1) (s .tries))) n
 
-        -- nothing is found below it
-        pub back : r .end ≡ NoneFound → tryFrom grid limit first slot core sets next (suc j) floor t l v barred u
-            ≡ tryFrom grid limit first slot core sets next j floor (r .table) (set (r .left) (counterOn grid slot v) (nth l (counterOn grid slot v))) (v + 1) (barred + evenOn grid v) (r .tries)
-        back n = tried ∙ ap (λ (x : End). unlessEnded x r (λ s. tryFrom grid limit first slot core sets next j floor (s .table) (set (s .left) (counterOn grid slot v) (nth l (counterOn grid slot v))) (v + 1) (barred + evenOn grid v) (s .tries))) n
-
-        -- the walk ends below it
-        stays : (r .end ≡ NoneFound → ⊥) → tryFrom grid limit first slot core sets next (suc j) floor t l v barred u ≡ r
-        stays x = tried ∙ ended-stays (r .end) r _ x
+      -- the walk ends below it
+      stays : (r .end ≡ NoneFound → ⊥) → tryFrom grid limit first slot core sets next (suc j) floor t l v u ≡ r
+      stays x = tried ∙ ended-stays (r .end) r _ x
 
 -- values that may not stand there
-pub skips-to : (grid : List ℕ) (limit first slot core sets : ℕ) (next : Onward) (floor : ℕ) (t l : List ℕ) (barred u z j v : ℕ)
+pub skips-to : (grid : List ℕ) (limit first slot core sets : ℕ) (next : Onward) (floor : ℕ) (t l : List ℕ) (u z j v : ℕ)
     → ((w : ℕ) → v ≤ w → w < v + z → has sets w core ≡ false)
-    → tryFrom grid limit first slot core sets next (j + z) floor t l v barred u ≡ tryFrom grid limit first slot core sets next j floor t l (v + z) barred u
-skips-to grid limit first slot core sets next floor t l barred u zero j v h = λ i. tryFrom grid limit first slot core sets next (add-zero j i) floor t l (sym (add-zero v) i) barred u
-skips-to grid limit first slot core sets next floor t l barred u (suc z) j v h =
-    ap (λ k. tryFrom grid limit first slot core sets next k floor t l v barred u) (add-suc j z)
-    ∙ skip grid limit first slot core sets next (j + z) floor t l v barred u (h v (omega arith) (omega arith))
-    ∙ skips-to grid limit first slot core sets next floor t l barred u z j (v + 1) (λ w a b. h w (omega arith) (omega arith))
-    ∙ ap (λ x. tryFrom grid limit first slot core sets next j floor t l x barred u) (omega arith)
+    → tryFrom grid limit first slot core sets next (j + z) floor t l v u ≡ tryFrom grid limit first slot core sets next j floor t l (v + z) u
+skips-to grid limit first slot core sets next floor t l u zero j v h = λ i. tryFrom grid limit first slot core sets next (add-zero j i) floor t l (sym (add-zero v) i) u
+skips-to grid limit first slot core sets next floor t l u (suc z) j v h =
+    ap (λ k. tryFrom grid limit first slot core sets next k floor t l v u) (add-suc j z)
+    ∙ skip grid limit first slot core sets next (j + z) floor t l v u (ap (λ b. b && leb floor (v + 1)) (h v (omega arith) (omega arith)))
+    ∙ skips-to grid limit first slot core sets next floor t l u z j (v + 1) (λ w a b. h w (omega arith) (omega arith))
+    ∙ ap (λ x. tryFrom grid limit first slot core sets next j floor t l x u) (omega arith)
 
 -- what walks on from the cell after the core
 abbrev pub onward : List ℕ → ℕ → Onward
 onward grid place = afterCell grid (walkOn (cellsLeft grid place) grid full) (firstOn grid place) (place / 4) (place % 4 + 1)
 
+-- it keeps the work left
+onward-keeps : (grid : List ℕ) (place : ℕ) → KeepsOn (onward grid place)
+onward-keeps grid place = after-keeps grid (walkOn (cellsLeft grid place) grid full) (walk-keeps (cellsLeft grid place) grid full) (firstOn grid place) (place / 4) (place % 4 + 1)
+
 -- the values of the cell of a place, from v on
-abbrev pub still : List ℕ → ℕ → ℕ → ℕ → ℕ → List ℕ → List ℕ → ℕ → ℕ → ℕ → State
-still grid place sets j floor t l v barred u = tryFrom grid full (firstOn grid place) (place / 4) (place % 4) sets (onward grid place) j floor t l v barred u
+abbrev pub still : List ℕ → ℕ → ℕ → ℕ → ℕ → List ℕ → List ℕ → ℕ → ℕ → State
+still grid place sets j floor t l v u = tryFrom grid full (firstOn grid place) (place / 4) (place % 4) sets (onward grid place) j floor t l v u
 
 -- the loop over the values of a cell: the tasks in `rest`, none of them before `next`, are still to be tried, and this gives what the whole walk gives
-pub record Turn (grid : List ℕ) (place sets first : ℕ) (t₀ l₀ : List ℕ) (tries floor : ℕ) (t l : List ℕ) (used barred rest : ℕ) : Type 0 where
+pub record Turn (grid : List ℕ) (place sets first : ℕ) (t₀ l₀ : List ℕ) (tries floor : ℕ) (t l : List ℕ) (used rest : ℕ) : Type 0 where
   pub stands : Stands grid place sets
   pub first-is : first ≡ firstOn grid place
   pub next : ℕ
@@ -150,14 +148,20 @@ pub record Turn (grid : List ℕ) (place sets first : ℕ) (t₀ l₀ : List ℕ
   pub rest-is : (v : ℕ) → next ≤ v → v < 16 → has rest v 0 ≡ has sets v (place % 4)
   pub none-before : (v : ℕ) → v < next → has rest v 0 ≡ false
   pub most : used ≤ full
-  pub bar : barred ≤ 65535 * next
+  pub kept : l ≡ l₀
   pub same : walkOn (suc (cellsLeft grid place)) grid full (firstOn grid place) (place / 4) (place % 4) sets t₀ l₀ tries
-      ≡ still grid place sets (tasksOn grid - next) floor t l next barred used
+      ≡ still grid place sets (tasksOn grid - next) floor t l next used
+
+-- a slot that starves a job is left with nothing found
+starves-on : (grid : List ℕ) (place sets : ℕ) (t l : List ℕ) (u : ℕ) → coresOn grid ≤ place % 4 + 1 → allSettledOn grid l (place / 4) ≡ false
+    → onward grid place sets t l u ≡ state NoneFound t l u
+unfolding afterCell
+starves-on grid place sets t l u h f = rw (le-ltb (place % 4 + 1) (coresOn grid) h, f)
 
 module _ {grid : List ℕ} {place sets first : ℕ} {t₀ l₀ : List ℕ} {tries floor : ℕ} where
   -- before the first value
   pub begins : Stands grid place sets → first ≡ firstOn grid place → {rest : ℕ} → rest ≡ ofCore sets (place % 4) → floor ≡ floorOn grid t₀ first (place % 4) → tries ≤ full
-      → Turn grid place sets first t₀ l₀ tries floor t₀ l₀ tries 0 rest
+      → Turn grid place sets first t₀ l₀ tries floor t₀ l₀ tries rest
   unfolding walkOn
   begins s e er ef m = record {
     stands = s;
@@ -169,15 +173,18 @@ module _ {grid : List ℕ} {place sets first : ℕ} {t₀ l₀ : List ℕ} {trie
     rest-is = λ v _ lv. ap (λ x. has x v 0) er ∙ of-core-has sets (place % 4) v (omega (arith, s .core-in, s .fits .cores)) lv;
     none-before = λ v l. absurd (omega arith);
     most = m;
-    bar = omega arith;
-    same = ap (λ k. still grid place sets k (floorOn grid t₀ (firstOn grid place) (place % 4)) t₀ l₀ 0 0 tries) (omega arith)
-        ∙ ap (λ f. still grid place sets (tasksOn grid - 0) f t₀ l₀ 0 0 tries) (sym (ef ∙ ap (λ x. floorOn grid t₀ x (place % 4)) e));
+    kept = refl;
+    same = ap (λ k. still grid place sets k (floorOn grid t₀ (firstOn grid place) (place % 4)) t₀ l₀ 0 tries) (omega arith)
+        ∙ ap (λ f. still grid place sets (tasksOn grid - 0) f t₀ l₀ 0 tries) (sym (ef ∙ ap (λ x. floorOn grid t₀ x (place % 4)) e));
   }
 
-  module _ {t l : List ℕ} {used barred rest : ℕ} (turn : Turn grid place sets first t₀ l₀ tries floor t l used barred rest) where
-    -- what was seen to bar idle is a number
-    pub bar-few : barred ≤ 1048560
-    bar-few = omega (arith, turn .bar, turn .next-in, turn .stands .fits .tasks)
+  module _ {t l : List ℕ} {used rest : ℕ} (turn : Turn grid place sets first t₀ l₀ tries floor t l used rest) where
+    -- a job is due only on the slot's last core
+    module _ {due : ℕ} (ed : due ≡ dueOn grid l₀ (place / 4) (place % 4)) (x : due ≢ noneDue) where
+      due-now : (coresOn grid ≤ place % 4 + 1) × (due ≡ firstDueOn grid l (place / 4))
+      due-now =
+          let e : due ≡ dueOn grid l (place / 4) (place % 4) = ed ∙ ap (λ y. dueOn grid y (place / 4) (place % 4)) (sym (turn .kept)) in
+          let d = due-only-last grid l (place / 4) (place % 4) (λ z. x (e ∙ z)) in (d .0, e ∙ d .1)
 
     -- some task is still to be tried: the lowest
     module _ (some : rest ≢ 0) {task : ℕ} (et : task ≡ lowest rest) where
@@ -211,15 +218,19 @@ module _ {grid : List ℕ} {place sets first : ℕ} {t₀ l₀ : List ℕ} {trie
 
       -- those between may not
       values : walkOn (suc (cellsLeft grid place)) grid full (firstOn grid place) (place / 4) (place % 4) sets t₀ l₀ tries
-          ≡ still grid place sets (suc (tasksOn grid - (task + 1))) floor t l task barred used
+          ≡ still grid place sets (suc (tasksOn grid - (task + 1))) floor t l task used
       values = turn .same
-          ∙ ap (λ k. still grid place sets k floor t l (turn .next) barred used) count
-          ∙ skips-to grid full (firstOn grid place) (place / 4) (place % 4) sets (onward grid place) floor t l barred used (task - turn .next) (suc (tasksOn grid - (task + 1))) (turn .next)
+          ∙ ap (λ k. still grid place sets k floor t l (turn .next) used) count
+          ∙ skips-to grid full (firstOn grid place) (place / 4) (place % 4) sets (onward grid place) floor t l used (task - turn .next) (suc (tasksOn grid - (task + 1))) (turn .next)
           (λ w a b. let h : w < task = omega (arith, not-before) in sym (turn .rest-is w a (omega (arith, there .0))) ∙ first-there w h)
-          ∙ ap (λ v. still grid place sets (suc (tasksOn grid - (task + 1))) floor t l v barred used) (omega (arith, not-before))
+          ∙ ap (λ v. still grid place sets (suc (tasksOn grid - (task + 1))) floor t l v used) (omega (arith, not-before))
         where
           count : tasksOn grid - turn .next ≡ suc (tasksOn grid - (task + 1)) + (task - turn .next)
           count = omega (arith, not-before, task-in)
+
+      -- rule B does not bar it
+      goes : floor ≤ task + 1 → has sets task (place % 4) && leb floor (task + 1) ≡ true
+      goes low = rw (may, le-leb floor (task + 1) low)
 
       module _ {rest′ : ℕ} (er : rest′ ≡ without rest task) where
         -- the tasks up to this one are gone
@@ -240,34 +251,56 @@ module _ {grid : List ℕ} {place sets first : ℕ} {t₀ l₀ : List ℕ} {trie
           ]
         ]
 
-        module _ {even : ℕ} (ee : even ≡ evenOn grid task) (small : even ≤ 65535) where
-          -- a turn with the task tried or passed over
-          after : (t′ l′ : List ℕ) (used′ : ℕ) → used′ ≤ full
-              → walkOn (suc (cellsLeft grid place)) grid full (firstOn grid place) (place / 4) (place % 4) sets t₀ l₀ tries
-              ≡ still grid place sets (tasksOn grid - (task + 1)) floor t′ l′ (task + 1) (barred + even) used′
-              → Turn grid place sets first t₀ l₀ tries floor t′ l′ used′ (barred + even) rest′
-          after t′ l′ used′ m e = record {
-            stands = turn .stands;
-            first-is = turn .first-is;
-            next = task + 1;
-            next-in = omega (arith, task-in);
-            alone = rw er (without-alone rest task (there .0) (turn .alone));
-            few = rw er (without-lt rest task (turn .few));
-            rest-is = λ v a lv. ap (λ x. has x v 0) er ∙ without-has rest task v 0 (there .0) (omega arith) ∙ rw (ne-eqb v task (λ q. omega arith)) (turn .rest-is v (omega (arith, not-before)) lv);
-            none-before = gone;
-            most = m;
-            bar = omega (arith, turn .bar, not-before, small);
-            same = e;
-          }
+        -- a turn with the task tried or passed over
+        after : (t′ l′ : List ℕ) (used′ : ℕ) → used′ ≤ full → l′ ≡ l₀
+            → walkOn (suc (cellsLeft grid place)) grid full (firstOn grid place) (place / 4) (place % 4) sets t₀ l₀ tries
+            ≡ still grid place sets (tasksOn grid - (task + 1)) floor t′ l′ (task + 1) used′
+            → Turn grid place sets first t₀ l₀ tries floor t′ l′ used′ rest′
+        after t′ l′ used′ m k e = record {
+          stands = turn .stands;
+          first-is = turn .first-is;
+          next = task + 1;
+          next-in = omega (arith, task-in);
+          alone = rw er (without-alone rest task (there .0) (turn .alone));
+          few = rw er (without-lt rest task (turn .few));
+          rest-is = λ v a lv. ap (λ x. has x v 0) er ∙ without-has rest task v 0 (there .0) (omega arith) ∙ rw (ne-eqb v task (λ q. omega arith)) (turn .rest-is v (omega (arith, not-before)) lv);
+          none-before = gone;
+          most = m;
+          kept = k;
+          same = e;
+        }
 
-          -- a value that rule B bars
-          pub bars : task + 1 < floor → Turn grid place sets first t₀ l₀ tries floor t l used (barred + even) rest′
-          bars less = after t l used (turn .most)
-              (values ∙ barred-by-B grid full (firstOn grid place) (place / 4) (place % 4) sets (onward grid place) (tasksOn grid - (task + 1)) floor t l task barred used may less
-              ∙ ap (λ x. still grid place sets (tasksOn grid - (task + 1)) floor t l (task + 1) (barred + x) used) (sym ee))
+        -- a value that rule B bars
+        pub bars : task + 1 < floor → Turn grid place sets first t₀ l₀ tries floor t l used rest′
+        bars less = after t l used (turn .most) (turn .kept)
+            (values ∙ skip grid full (firstOn grid place) (place / 4) (place % 4) sets (onward grid place) (tasksOn grid - (task + 1)) floor t l task used (rw (may, lt-leb floor (task + 1) less)))
+
+        module _ (low : floor ≤ task + 1) (q : used ≢ full) {k : ℕ} (ek : k ≡ counterOn grid (place / 4) task) where
+          -- a value that leaves a job starved: no more than a try
+          module _ {due : ℕ} (ed : due ≡ dueOn grid l₀ (place / 4) (place % 4)) (some-due : due ≢ noneDue) (other : due ≢ k) where
+            -- the work left below it
+            less-left : List ℕ
+            less-left = set l (counterOn grid (place / 4) task) (nth l (counterOn grid (place / 4) task) - rateOn grid task (place % 4))
+
+            starved-there : State
+            starved-there = state NoneFound (set t (first + place % 4) (task + 1)) less-left (used + 1)
+
+            comes-to : placed grid full (firstOn grid place) (place / 4) (place % 4) sets (onward grid place) t l task used ≡ starved-there
+            unfolding placed starved-there less-left
+            comes-to =
+                let d = due-now ed some-due in
+                starves-on grid place (without sets task) (set t (firstOn grid place + place % 4) (task + 1)) less-left (used + 1) (d .0)
+                (due-still grid l (place / 4) (counterOn grid (place / 4) task) _ (λ z. some-due (d .1 ∙ z)) (λ z. other (d .1 ∙ z ∙ sym ek)))
+                ∙ ap (λ x. state NoneFound (set t (x + place % 4) (task + 1)) less-left (used + 1)) (sym (turn .first-is))
+
+            pub passes : Turn grid place sets first t₀ l₀ tries floor (set t (first + place % 4) (task + 1)) l (used + 1) rest′
+            unfolding starved-there less-left
+            passes = after (set t (first + place % 4) (task + 1)) l (used + 1) (omega (arith, turn .most)) (turn .kept)
+                (values ∙ back grid full (firstOn grid place) (place / 4) (place % 4) sets (onward grid place) (tasksOn grid - (task + 1)) floor t l task used (goes low) q starved-there comes-to refl
+                ∙ ap (λ x. still grid place sets (tasksOn grid - (task + 1)) floor (set t (first + place % 4) (task + 1)) x (task + 1) (used + 1)) (given-back l (counterOn grid (place / 4) task) _))
 
           -- a value that is put into the cell: the work left is less by its rate, and the walk goes on with the slot's next core
-          module _ (low : floor ≤ task + 1) (q : used ≢ full) {k rate had : ℕ} (ek : k ≡ counterOn grid (place / 4) task) (eo : rate ≡ rateOn grid task (place % 4)) (eh : had ≡ nth l k)
+          module _ {rate had : ℕ} (eo : rate ≡ rateOn grid task (place % 4)) (eh : had ≡ nth l k)
               {l₁ : List ℕ} (el : l₁ ≡ set l k (nth l k - rate)) {sets₁ : ℕ} (es : sets₁ ≡ without sets task) {r : ℕ} {t′ l′ : List ℕ}
               (ran : RanAfter grid place sets₁ (set t (first + place % 4) (task + 1)) l₁ (used + 1) r t′ l′) where
             below : State
@@ -278,11 +311,11 @@ module _ {grid : List ℕ} {place sets first : ℕ} {t₀ l₀ : List ℕ} {trie
             went = sym (λ i. onward grid place (es i) (set t (turn .first-is i + place % 4) (task + 1)) ((el ∙ (λ j. set l (ek j) (nth l (ek j) - eo j))) i) (used + 1))
 
             -- it comes back with nothing, and the counter is given back what it was
-            pub backs : r < 4294967296 → {l″ : List ℕ} → l″ ≡ set l′ k had → Turn grid place sets first t₀ l₀ tries floor t′ l″ r (barred + even) rest′
+            pub backs : r < 4294967296 → {l″ : List ℕ} → l″ ≡ set l′ k had → Turn grid place sets first t₀ l₀ tries floor t′ l″ r rest′
             unfolding below
-            backs small-r {l″} eb = after t′ l″ r (omega (arith, ran .leaves .most, nothing .1))
-                (values ∙ back grid full (firstOn grid place) (place / 4) (place % 4) sets (onward grid place) (tasksOn grid - (task + 1)) floor t l task barred used may low q below went (nothing .0)
-                ∙ (λ i. still grid place sets (tasksOn grid - (task + 1)) floor (sym (ran .leaves .table) i) (given i) (task + 1) (barred + sym ee i) (nothing .1 i)))
+            backs small-r {l″} eb = after t′ l″ r (omega (arith, ran .leaves .most, nothing .1)) (again ∙ turn .kept)
+                (values ∙ back grid full (firstOn grid place) (place / 4) (place % 4) sets (onward grid place) (tasksOn grid - (task + 1)) floor t l task used (goes low) q below went (nothing .0)
+                ∙ (λ i. still grid place sets (tasksOn grid - (task + 1)) floor (sym (ran .leaves .table) i) (given i) (task + 1) (nothing .1 i)))
               where
                 nothing : (below .end ≡ NoneFound) × (below .tries ≡ r)
                 nothing = number-none (below .end) (below .tries) r (ran .leaves .answer) small-r
@@ -290,11 +323,15 @@ module _ {grid : List ℕ} {place sets first : ℕ} {t₀ l₀ : List ℕ} {trie
                 given : set (below .left) (counterOn grid (place / 4) task) (nth l (counterOn grid (place / 4) task)) ≡ l″
                 given = (λ i. set (sym (ran .leaves .left) i) (sym ek i) (nth l (sym ek i))) ∙ ap (set l′ k) (sym eh) ∙ sym eb
 
+                again : l″ ≡ l
+                again = eb ∙ ap (λ x. set l′ k x) eh
+                    ∙ ap (λ x. set x k (nth l k)) (ran .leaves .left ∙ onward-keeps grid place sets₁ _ l₁ (used + 1) (nothing .0) ∙ el) ∙ given-back l k _
+
             -- it comes back with an end
             pub ends : 4294967296 ≤ r → Ran grid place sets t₀ l₀ tries r t′ l′
             unfolding below
             ends big = record {
-              leaves = leaves-same (sym (values ∙ stays grid full (firstOn grid place) (place / 4) (place % 4) sets (onward grid place) (tasksOn grid - (task + 1)) floor t l task barred used may low q below went
+              leaves = leaves-same (sym (values ∙ stays grid full (firstOn grid place) (place / 4) (place % 4) sets (onward grid place) (tasksOn grid - (task + 1)) floor t l task used (goes low) q below went
                   (number-ended (below .end) (below .tries) r (ran .leaves .answer) (omega (arith, ran .leaves .most)) big))) (ran .leaves);
             }
 
@@ -302,36 +339,49 @@ module _ {grid : List ℕ} {place sets first : ℕ} {t₀ l₀ : List ℕ} {trie
       pub stops : floor ≤ task + 1 → used ≡ full → Ran grid place sets t₀ l₀ tries (8589934592 + used) t l
       unfolding walkNumber
       stops low q = record {
-        leaves = leaves-same (sym (values ∙ stop grid full (firstOn grid place) (place / 4) (place % 4) sets (onward grid place) (tasksOn grid - (task + 1)) floor t l task barred used may low q)) (told Stopped t l used (turn .most));
+        leaves = leaves-same (sym (values ∙ stop grid full (firstOn grid place) (place / 4) (place % 4) sets (onward grid place) (tasksOn grid - (task + 1)) floor t l task used (goes low) q)) (told Stopped t l used (turn .most));
       }
 
     -- after the last task: idle
-    module _ (over : rest ≡ 0) where
+    module _ (over : rest ≡ 0) {bars : Bool} (eb : bars ≡ barsIdle grid sets (place % 4)) where
       last : walkOn (suc (cellsLeft grid place)) grid full (firstOn grid place) (place / 4) (place % 4) sets t₀ l₀ tries
-          ≡ idleLast grid full (firstOn grid place) (place / 4) (place % 4) sets (onward grid place) t l barred used
+          ≡ idleLast grid full (firstOn grid place) (place / 4) (place % 4) sets (onward grid place) t l used
       unfolding tryFrom
       last = turn .same
-          ∙ ap (λ k. still grid place sets k floor t l (turn .next) barred used) (sym (zero-add (tasksOn grid - turn .next)))
-          ∙ skips-to grid full (firstOn grid place) (place / 4) (place % 4) sets (onward grid place) floor t l barred used (tasksOn grid - turn .next) 0 (turn .next)
+          ∙ ap (λ k. still grid place sets k floor t l (turn .next) used) (sym (zero-add (tasksOn grid - turn .next)))
+          ∙ skips-to grid full (firstOn grid place) (place / 4) (place % 4) sets (onward grid place) floor t l used (tasksOn grid - turn .next) 0 (turn .next)
           (λ w a b. sym (turn .rest-is w a (omega (arith, turn .next-in, turn .stands .fits .tasks))) ∙ ap (λ x. has x w 0) over ∙ none-has w 0)
 
       -- rule A bars it
-      pub idle-barred : barred ≢ 0 → Ran grid place sets t₀ l₀ tries used t l
+      pub idle-barred : bars ≡ true → Ran grid place sets t₀ l₀ tries used t l
       unfolding idleLast walkNumber
-      idle-barred x = record { leaves = leaves-same (sym (last ∙ rw (ne-eqb barred 0 x))) (told NoneFound t l used (turn .most)) }
+      idle-barred z = record { leaves = leaves-same (sym (last ∙ rw (sym eb ∙ z))) (told NoneFound t l used (turn .most)) }
 
       -- the limit does not allow it
-      pub idle-stops : barred ≡ 0 → used ≡ full → Ran grid place sets t₀ l₀ tries (8589934592 + used) t l
+      pub idle-stops : bars ≡ false → used ≡ full → Ran grid place sets t₀ l₀ tries (8589934592 + used) t l
       unfolding idleLast walkNumber
-      idle-stops z q = record { leaves = leaves-same (sym (last ∙ rw (eq-eqb barred 0 z, eq-eqb used full q))) (told Stopped t l used (turn .most)) }
+      idle-stops z q = record { leaves = leaves-same (sym (last ∙ rw (sym eb ∙ z, eq-eqb used full q))) (told Stopped t l used (turn .most)) }
 
       -- it is put into the cell
-      pub idles : barred ≡ 0 → used ≢ full → {r : ℕ} {t′ l′ : List ℕ}
-          → RanAfter grid place sets (set t (first + place % 4) 0) l (used + 1) r t′ l′ → Ran grid place sets t₀ l₀ tries r t′ l′
+      idle-put : bars ≡ false → used ≢ full → walkOn (suc (cellsLeft grid place)) grid full (firstOn grid place) (place / 4) (place % 4) sets t₀ l₀ tries
+          ≡ onward grid place sets (set t (first + place % 4) 0) l (used + 1)
       unfolding idleLast
-      idles z q ran = record {
-        leaves = leaves-same (ap (λ x. onward grid place sets (set t (x + place % 4) 0) l (used + 1)) (turn .first-is) ∙ sym (last ∙ rw (eq-eqb barred 0 z, ne-eqb used full q))) (ran .leaves);
-      }
+      idle-put z q = last ∙ rw (sym eb ∙ z, ne-eqb used full q) (ap (λ x. onward grid place sets (set t (x + place % 4) 0) l (used + 1)) (sym (turn .first-is)))
+
+      -- and leaves a job starved
+      pub idle-starves : bars ≡ false → used ≢ full → {due : ℕ} → due ≡ dueOn grid l₀ (place / 4) (place % 4) → due ≢ noneDue
+          → Ran grid place sets t₀ l₀ tries (used + 1) (set t (first + place % 4) 0) l
+      unfolding walkNumber
+      idle-starves z q ed x =
+          let d = due-now ed x in record {
+            leaves = leaves-same (sym (idle-put z q ∙ starves-on grid place sets (set t (first + place % 4) 0) l (used + 1) (d .0) (due-starves grid l (place / 4) (λ y. x (d .1 ∙ y)))))
+                (told NoneFound (set t (first + place % 4) 0) l (used + 1) (omega (arith, turn .most)));
+          }
+
+      -- or the walk goes on
+      pub idles : bars ≡ false → used ≢ full → {r : ℕ} {t′ l′ : List ℕ}
+          → RanAfter grid place sets (set t (first + place % 4) 0) l (used + 1) r t′ l′ → Ran grid place sets t₀ l₀ tries r t′ l′
+      idles z q ran = record { leaves = leaves-same (sym (idle-put z q)) (ran .leaves) }
 
 -- ---- where the walk goes on
 module _ {grid : List ℕ} {place sets : ℕ} (stands : Stands grid place sets) where
@@ -358,7 +408,7 @@ module _ {grid : List ℕ} {place sets : ℕ} (stands : Stands grid place sets) 
   stands-slot h l slot es = record {
     fits = at-slot (stands .fits) (omega arith);
     core-in = omega (arith, stands .core-in);
-    within = λ v c n _. ap (λ s. has s v c) es ∙ sets-none grid l slot (tasksOn grid) 0 v c n;
+    within = λ v c n _. ap (λ s. has s v c) es ∙ sets-none grid l slot v c n;
   }
 
 -- at the first cell
@@ -366,7 +416,7 @@ pub stands-start : (grid l : List ℕ) {sets : ℕ} → OnGrid grid 0 → 0 < co
 stands-start grid l fits some es = record {
   fits = fits;
   core-in = some;
-  within = λ v c n _. ap (λ s. has s v c) es ∙ sets-none grid l 0 (tasksOn grid) 0 v c n;
+  within = λ v c n _. ap (λ s. has s v c) es ∙ sets-none grid l 0 v c n;
 }
 
 -- ---- after a core
@@ -405,24 +455,26 @@ module _ {grid : List ℕ} {place sets : ℕ} {t l : List ℕ} {u : ℕ} (stands
         (moves (place + 1) (core-left stands h) (ap (λ s. s * coresOn grid) (next-core stands h .0)) (next-core stands h .0) (next-core stands h .1) ran);
   }
 
-  module _ (h : coresOn grid ≤ place % 4 + 1) {b : Bool} (e : b ≡ allSettledOn grid l (place / 4)) where
+  module _ (h : coresOn grid ≤ place % 4 + 1) {due : ℕ} (e : due ≡ firstDueOn grid l (place / 4)) where
     -- a job is starved
-    pub starved : b ≡ false → u ≤ full → RanAfter grid place sets t l u u t l
-    unfolding afterCell walkNumber
-    starved f m = record { leaves = leaves-same (sym (rw (le-ltb (place % 4 + 1) (coresOn grid) h, ← e, f))) (told NoneFound t l u m) }
+    pub starved : due ≢ noneDue → u ≤ full → RanAfter grid place sets t l u u t l
+    unfolding walkNumber
+    starved x m = record { leaves = leaves-same (sym (starves-on grid place sets t l u h (due-starves grid l (place / 4) (λ z. x (e ∙ z))))) (told NoneFound t l u m) }
 
     -- the table is found
-    pub founds : b ≡ true → slotsOn grid ≤ place / 4 + 1 → u ≤ full → RanAfter grid place sets t l u (4294967296 + u) t l
+    pub founds : due ≡ noneDue → slotsOn grid ≤ place / 4 + 1 → u ≤ full → RanAfter grid place sets t l u (4294967296 + u) t l
     unfolding afterCell walkNumber
-    founds f s m = record { leaves = leaves-same (sym (rw (le-ltb (place % 4 + 1) (coresOn grid) h, ← e, f, le-ltb (place / 4 + 1) (slotsOn grid) s))) (told Found t l u m) }
+    founds z s m = record {
+      leaves = leaves-same (sym (rw (le-ltb (place % 4 + 1) (coresOn grid) h, none-starved grid l (place / 4) (stands .fits) (sym e ∙ z), le-ltb (place / 4 + 1) (slotsOn grid) s))) (told Found t l u m);
+    }
 
     -- there is one more slot
-    pub next-slots : b ≡ true → place / 4 + 1 < slotsOn grid → {sets′ : ℕ} → sets′ ≡ setsOn grid l (place / 4 + 1) → {r : ℕ} {t′ l′ : List ℕ}
+    pub next-slots : due ≡ noneDue → place / 4 + 1 < slotsOn grid → {sets′ : ℕ} → sets′ ≡ setsOn grid l (place / 4 + 1) → {r : ℕ} {t′ l′ : List ℕ}
         → Ran grid ((place / 4 + 1) * 4) sets′ t l u r t′ l′ → RanAfter grid place sets t l u r t′ l′
     unfolding afterCell
-    next-slots f s {sets′} es ran = record {
+    next-slots z s {sets′} es ran = record {
       leaves = leaves-same (ap (λ x. walkOn (cellsLeft grid place) grid full (firstOn grid place + (place % 4 + 1)) (place / 4 + 1) 0 x t l u) es
-          ∙ sym (rw (le-ltb (place % 4 + 1) (coresOn grid) h, ← e, f, lt-ltb (place / 4 + 1) (slotsOn grid) s)))
+          ∙ sym (rw (le-ltb (place % 4 + 1) (coresOn grid) h, none-starved grid l (place / 4) (stands .fits) (sym e ∙ z), lt-ltb (place / 4 + 1) (slotsOn grid) s)))
           (moves ((place / 4 + 1) * 4) (slot-left stands h s) (slot-first stands h) slot core ran);
     }
       where

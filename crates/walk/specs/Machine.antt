@@ -2,13 +2,13 @@
 -- Assumes nothing.
 use Prim.Native.Nat.{ℕ, zero, suc, _+_, _*_, _-_, _/_, _%_, _≤_, _<_}
 use mathlib.Core.Path.{_≡_}
-use mathlib.Core.Bool.{false, cond}
+use mathlib.Core.Bool.{false, cond, _&&_}
 use mathlib.Core.List.{List}
 use lib.Dec.{leb, ltb, eqb}
 use lib.ListN.{set}
 use Rattle.laws.specs.Lists.{nth}
 use Rattle.sets.specs.Sets.{has, without}
-use Rattle.grid.specs.Grid.{rateOn, evenOn, tasksOn, coresOn, slotsOn, cellsOn, counterOn, setsOn, floorOn, allSettledOn, OnGrid}
+use Rattle.grid.specs.Grid.{rateOn, tasksOn, coresOn, slotsOn, cellsOn, counterOn, setsOn, barsIdle, floorOn, allSettledOn, OnGrid}
 
 -- how a walk ends
 pub data End : Type 0 where
@@ -47,11 +47,11 @@ Onward = ℕ → List ℕ → List ℕ → ℕ → State
 abbrev pub oneMore : ℕ → List ℕ → List ℕ → ℕ → State → State
 oneMore limit t l u r = cond (eqb u limit) (state Stopped t l u) r
 
--- the cell of core `core` in the slot: the values v + 1, v + 2, .., j of them, and then idle, with `barred` tasks seen that bar idle
+-- the cell of core `core` in the slot: the values v + 1, v + 2, .., j of them, and then idle
 module _ (grid : List ℕ) (limit first slot core sets : ℕ) (next : Onward) where
-  -- idle, if nothing bars it
-  unfoldable pub idleLast : List ℕ → List ℕ → ℕ → ℕ → State
-  idleLast t l barred u = cond (eqb barred 0) (oneMore limit t l u (next sets (set t (first + core) 0) l (u + 1))) (state NoneFound t l u)
+  -- idle, if rule A does not bar it
+  unfoldable pub idleLast : List ℕ → List ℕ → ℕ → State
+  idleLast t l u = cond (barsIdle grid sets core) (state NoneFound t l u) (oneMore limit t l u (next sets (set t (first + core) 0) l (u + 1)))
 
   -- task v put into the cell, and on from there
   unfoldable pub placed : List ℕ → List ℕ → ℕ → ℕ → State
@@ -59,16 +59,14 @@ module _ (grid : List ℕ) (limit first slot core sets : ℕ) (next : Onward) wh
       next (without sets v) (set t (first + core) (v + 1)) (set l (counterOn grid slot v) (nth l (counterOn grid slot v) - rateOn grid v core)) (u + 1)
 
   -- the values in order, and idle last
-  unfoldable pub tryFrom : ℕ → ℕ → List ℕ → List ℕ → ℕ → ℕ → ℕ → State
-  tryFrom zero floor t l v barred u = idleLast t l barred u
-  tryFrom (suc j) floor t l v barred u =
-      cond (has sets v core)
-      (cond (leb floor (v + 1))
+  unfoldable pub tryFrom : ℕ → ℕ → List ℕ → List ℕ → ℕ → ℕ → State
+  tryFrom zero floor t l v u = idleLast t l u
+  tryFrom (suc j) floor t l v u =
+      cond (has sets v core && leb floor (v + 1))
       (oneMore limit t l u
       (let r = placed t l v u in
-      unlessEnded (r .end) r (λ s. tryFrom j floor (s .table) (set (s .left) (counterOn grid slot v) (nth l (counterOn grid slot v))) (v + 1) (barred + evenOn grid v) (s .tries))))
-      (tryFrom j floor t l (v + 1) (barred + evenOn grid v) u))
-      (tryFrom j floor t l (v + 1) barred u)
+      unlessEnded (r .end) r (λ s. tryFrom j floor (s .table) (set (s .left) (counterOn grid slot v) (nth l (counterOn grid slot v))) (v + 1) (s .tries))))
+      (tryFrom j floor t l (v + 1) u)
 
 -- from core to core, and from the last core to the next slot, or to the table's end; `walk` goes on from a cell
 unfoldable pub afterCell : List ℕ → (ℕ → ℕ → ℕ → Onward) → ℕ → ℕ → ℕ → Onward
@@ -82,7 +80,7 @@ afterCell grid walk first slot core sets t l u =
 unfoldable pub walkOn : ℕ → List ℕ → ℕ → ℕ → ℕ → ℕ → Onward
 walkOn zero grid limit first slot core sets t l u = state NoneFound t l u
 walkOn (suc k) grid limit first slot core sets t l u =
-    tryFrom grid limit first slot core sets (afterCell grid (walkOn k grid limit) first slot (core + 1)) (tasksOn grid) (floorOn grid t first core) t l 0 0 u
+    tryFrom grid limit first slot core sets (afterCell grid (walkOn k grid limit) first slot (core + 1)) (tasksOn grid) (floorOn grid t first core) t l 0 u
 
 -- where the walk stands: place slot * 4 + core, with the sets of the tasks that may still stand in the slot
 pub record Stands (grid : List ℕ) (place sets : ℕ) : Type 0 where

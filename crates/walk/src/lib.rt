@@ -11,13 +11,16 @@ ghost use Rattle.walk.specs.Machine.{Stands, Ran, RanAfter};
 ghost use Rattle.laws.specs.Lists.{nth};
 ghost use lib.ListN.{set};
 use grid::CORES_AT;
-use grid::EVEN_AT;
+use grid::NONE_DUE;
 use grid::SLOTS_AT;
-use grid::all_settled;
+use grid::bars_idle;
 use grid::counter;
+use grid::due;
 use grid::enter;
+use grid::first_due;
 use grid::floor;
 use grid::rate;
+use grid::starves;
 use grid::wide;
 use tasks::Slots;
 use tasks::Work;
@@ -64,7 +67,7 @@ fn take_back(left: &mut [u16; 16385], counter: usize, had: Work)
 // Tries each value in the cell of a place, in order: the tasks that may stand there, and then idle.
 fn cell(
     table: &mut [u8; 4096],
-    grid: &[u16; 17523],
+    grid: &[u16; 17499],
     left: &mut [u16; 16385],
     place: usize,
     mut used: u32,
@@ -77,48 +80,54 @@ fn cell(
     let core = place % 4;
     let first = slot * wide(grid[CORES_AT]);
     let floor = floor(grid, table, first, core);
-    let mut barred: usize = 0;
+    let due = due(grid, left, slot, core);
     let mut rest = sets::of_core(sets, core);
     while rest != 0 {
         let task = sets::lowest(rest);
         rest = sets::without(rest, task);
-        barred += wide(grid[EVEN_AT + task]);
         if floor <= task + 1 {
             if used == FULL {
                 return IF_STOPPED + used as u64;
             }
-            let counter = counter(grid, slot, task);
-            let had = put(left, counter, rate(grid, task, core));
             table[first + core] = (task + 1) as u8;
-            let r = finish_slot(
-                table,
-                grid,
-                left,
-                place,
-                used + 1,
-                sets::without(sets, task),
-            );
-            if IF_FOUND <= r {
-                return r;
+            let counter = counter(grid, slot, task);
+            if starves(due, counter) {
+                used += 1;
+            } else {
+                let had = put(left, counter, rate(grid, task, core));
+                let r = finish_slot(
+                    table,
+                    grid,
+                    left,
+                    place,
+                    used + 1,
+                    sets::without(sets, task),
+                );
+                if IF_FOUND <= r {
+                    return r;
+                }
+                take_back(left, counter, had);
+                used = r as u32;
             }
-            take_back(left, counter, had);
-            used = r as u32;
         }
     }
-    if barred != 0 {
+    if bars_idle(grid, sets, core) {
         return used as u64;
     }
     if used == FULL {
         return IF_STOPPED + used as u64;
     }
     table[first + core] = 0;
+    if due != NONE_DUE {
+        return used as u64 + 1;
+    }
     finish_slot(table, grid, left, place, used + 1, sets)
 }
 
 // After the cell of a place: the next core; after the last, where no job is starved, the next slot; after the last slot the table is found.
 fn finish_slot(
     table: &mut [u8; 4096],
-    grid: &[u16; 17523],
+    grid: &[u16; 17499],
     left: &mut [u16; 16385],
     place: usize,
     tries: u32,
@@ -131,7 +140,7 @@ fn finish_slot(
         return cell(table, grid, left, place + 1, tries, sets);
     }
     let slot = place / 4;
-    if all_settled(grid, left, slot) {
+    if first_due(grid, left, slot) == NONE_DUE {
         if slot + 1 < wide(grid[SLOTS_AT]) {
             let sets = enter(grid, left, slot + 1);
             return cell(table, grid, left, (slot + 1) * 4, tries, sets);
@@ -142,7 +151,7 @@ fn finish_slot(
 }
 
 // The walk from the first cell.
-pub fn walk(table: &mut [u8; 4096], grid: &[u16; 17523], left: &mut [u16; 16385], tries: u32) -> u64
+pub fn walk(table: &mut [u8; 4096], grid: &[u16; 17499], left: &mut [u16; 16385], tries: u32) -> u64
     requires { ⌜ OnGrid (now grid) 0 × (0 < coresOn (now grid)) ⌝ }
     ensures { λ r. ⌜ Ran (now (grid .entry)) 0 (setsOn (now (grid .entry)) (now (left .entry)) 0) (now (table .entry)) (now (left .entry)) tries r (now (table .exit)) (now (left .exit)) ⌝ }
 {

@@ -12,7 +12,7 @@ use Rattle.fill.proofs.fill_ends.Statement.{statement}
 use Rattle.fill.proofs.fill_ends.Tie as tie
 
 abbrev Inv-loop : tie.InvT-loop
-Inv-loop grid₀ n slots slot₀ grid slot = (slot ≤ slots) × (grid ≡ filled grid₀ 16499 slot (endMark grid₀ n))
+Inv-loop grid₀ n slots slot₀ grid slot = (slot ≤ slots) × (grid ≡ filled grid₀ 16475 slot (endMark grid₀ n))
 
 abbrev μ-loop : tie.MeasureT-loop
 μ-loop grid₀ n slots slot₀ grid slot = slots - slot

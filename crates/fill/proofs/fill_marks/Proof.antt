@@ -12,10 +12,10 @@ use Rattle.fill.proofs.fill_marks.Statement.{statement}
 use Rattle.fill.proofs.fill_marks.Tie as tie
 
 abbrev Inv-loop : tie.InvT-loop
-Inv-loop grid₀ n rates m engine slots x₀ grid x = (x ≤ 115) × (grid ≡ filled grid₀ 16384 x (markAt n rates m engine slots))
+Inv-loop grid₀ n rates m engine slots x₀ grid x = (x ≤ 91) × (grid ≡ filled grid₀ 16384 x (markAt n rates m engine slots))
 
 abbrev μ-loop : tie.MeasureT-loop
-μ-loop grid₀ n rates m engine slots x₀ grid x = 115 - x
+μ-loop grid₀ n rates m engine slots x₀ grid x = 91 - x
 
 loop-holds : tie.Need-loop-holds Inv-loop μ-loop
 loop-holds c = (search needs, filled-none _ _ _)
