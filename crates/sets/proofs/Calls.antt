@@ -3,13 +3,14 @@
 use Prim.Native.Nat.{ℕ}
 use mathlib.Core.Path.{_≡_, refl}
 use Rattle.laws.proofs.Only.{Says, only}
-use Rattle.sets.specs.Sets.{ofCore, lowest, without, pushed, common, onCores}
+use Rattle.sets.specs.Sets.{ofCore, lowest, without, pushed, common, onCores, fromRank}
 use Rattle.sets.proofs.of_core as of-core
 use Rattle.sets.proofs.lowest as lowest-task
 use Rattle.sets.proofs.without as without-task
 use Rattle.sets.proofs.pushed as pushed-cores
 use Rattle.sets.proofs.common as common-tasks
 use Rattle.sets.proofs.on_cores as on-cores
+use Rattle.sets.proofs.from_rank as from-rank
 
 -- ---- of_core
 abbrev pub OfCore : ℕ → ℕ → ℕ → Type 0
@@ -70,3 +71,13 @@ on-cores-says κs set set′ r M 𝓤 H A mem run = refl
 
 pub on-cores-only : (set r r′ : ℕ) → OnCores set r → OnCores set r′ → r ≡ r′
 on-cores-only set r r′ = only
+
+-- ---- from_rank
+abbrev pub FromRank : ℕ → ℕ → ℕ → Type 0
+FromRank set rank r = r ≡ fromRank set rank
+
+from-rank-says : (κs set rank set′ rank′ r : _) → Says (λ M 𝓤 H A mem run. from-rank.ensures-1 𝓤 H κs A mem run set rank set′ rank′ r) (FromRank set rank r)
+from-rank-says κs set rank set′ rank′ r M 𝓤 H A mem run = refl
+
+pub from-rank-only : (set rank r r′ : ℕ) → FromRank set rank r → FromRank set rank r′ → r ≡ r′
+from-rank-only set rank r r′ = only

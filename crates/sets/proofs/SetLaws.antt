@@ -1,15 +1,15 @@
 -- Sets of tasks by their digits: each operation is told digit by digit, and the digits of the two masks by computation and by their places.
 -- Assumes nothing.
 use Prim.Native.Nat.{ℕ, zero, suc, _+_, _-_, _*_, _/_, _%_, _^_, _≤_, _<_, suc-le-suc, min}
-use native.Mathlib.Nat.{le-of-suc-le-suc, not-suc-le-zero, zero-lt-suc, lt-of-lt-of-le, lt-of-le-of-lt, add-zero, add-comm, mul-assoc, add-mul-div-right, div-one, div-eq-of-lt, div-lt-iff-lt-mul, mod-lt, min-zero, zero-min, min-eq-right, min-le-left, min-eq-left, pow-suc, zero-div}
+use native.Mathlib.Nat.{le-of-suc-le-suc, not-suc-le-zero, zero-lt-suc, lt-of-lt-of-le, lt-of-le-of-lt, add-zero, add-comm, mul-assoc, add-mul-div-right, div-one, div-eq-of-lt, div-lt-iff-lt-mul, mod-lt, min-zero, zero-min, min-eq-right, min-le-left, min-eq-left, pow-suc, zero-div, zero-mul, div-mul-le-self, mod-eq-of-lt}
 use native.Mathlib.Decide.{ℕ-discrete}
 use native.Mathlib.Omega.{arith}
 use native.Mathlib.Numerals.{one-add}
 use mathlib.Core.Path.{_≡_, refl, sym, ap, _∙_, subst}
 use mathlib.Core.Logic.{_≢_, ⊎-elim}
-use mathlib.Core.Bool.{Bool, true, false, not, _&&_, true≢false, and-false}
-use borrow.Author.Tests.{eq-eqb, ne-eqb}
-use lib.Dec.{eqb, eqb→eq, lit<}
+use mathlib.Core.Bool.{Bool, true, false, not, _&&_, true≢false, and-false, and-true}
+use borrow.Author.Tests.{le-leb, lt-leb, eq-eqb, ne-eqb}
+use lib.Dec.{leb, eqb, eqb→eq, lit<}
 use lib.Arith.{digits-mod, digits-lt, lt-one}
 use lib.Pow.{pow-pos, pow-mono, pow-add, shr-shr, shl-shr, shl-lt, high}
 use lib.Bits.{bitAnd, bitXor, differ, block-odd, and-step, xor-step, and-shr, xor-shr, and-le-l, and-le-r, xor-lt}
@@ -18,7 +18,7 @@ use Rattle.laws.specs.Tests.{all}
 use Rattle.laws.specs.Sum.{gate}
 use Rattle.laws.proofs.TestLaws.{all-at, all-true, all-false}
 use Rattle.laws.proofs.SumLaws.{lt-or-ge}
-use Rattle.sets.specs.Sets.{has, ofCore, lowest, without, pushed, common, onCores, Alone}
+use Rattle.sets.specs.Sets.{has, ofCore, lowest, without, pushed, common, onCores, fromRank, Alone}
 
 -- ---- digits
 
@@ -329,3 +329,54 @@ pub on-cores-first : (b : Bool) (c : ℕ) → c < 4 → has (gate b 15) 0 c ≡ 
 unfolding has gate
 on-cores-first true c l = ap (λ (d : ℕ). eqb d 1) {x = digit 15 (4 * 0 + c)} {y = 1} (eqb→eq _ _ (all-at 4 (λ j. eqb (digit 15 (4 * 0 + j)) 1) tt c l))
 on-cores-first false c l = none-has 0 c
+
+-- ---- the tasks from a rank on
+
+-- a task is among them if it is in the set and its rank is not below
+pub from-has : (s rank v c : ℕ) → c < 4 → has (fromRank s rank) v c ≡ has s v c && leb rank (v + 1)
+unfolding has fromRank
+from-has s rank v c l = ⊎-elim below above (lt-or-ge (v + 1) rank)
+  where
+    j : ℕ
+    j = 4 * (rank - 1)
+
+    k : ℕ
+    k = 4 * v + c
+
+    below : v + 1 < rank → eqb (digit (s / 2 ^ j * 2 ^ j) k) 1 ≡ eqb (digit s k) 1 && leb rank (v + 1)
+    below h = ap (λ (d : ℕ). eqb d 1) (ap (λ (n : ℕ). digit n k) (sym (add-zero (s / 2 ^ j * 2 ^ j))) ∙ digit-below (s / 2 ^ j) j k 0 (omega arith) ∙ digit-none k)
+        ∙ sym (ap (λ (b : Bool). eqb (digit s k) 1 && b) (lt-leb rank (v + 1) h) ∙ and-false (eqb (digit s k) 1))
+
+    above : rank ≤ v + 1 → eqb (digit (s / 2 ^ j * 2 ^ j) k) 1 ≡ eqb (digit s k) 1 && leb rank (v + 1)
+    above h =
+        let more : k ≡ j + (k - j) = omega arith in
+        ap (λ (d : ℕ). eqb d 1)
+        (ap (digit (s / 2 ^ j * 2 ^ j)) more ∙ sym (digit-shr (s / 2 ^ j * 2 ^ j) j (k - j)) ∙ ap (λ (n : ℕ). digit n (k - j)) (shl-shr (s / 2 ^ j) j)
+        ∙ digit-shr s j (k - j) ∙ ap (digit s) (sym more))
+        ∙ sym (ap (λ (b : Bool). eqb (digit s k) 1 && b) (le-leb rank (v + 1) h) ∙ and-true (eqb (digit s k) 1))
+
+-- a set of core 0, alone, stays one
+pub from-alone : (s rank : ℕ) → Alone s → Alone (fromRank s rank)
+from-alone s rank a = record { none = λ v c x l. from-has s rank v c l ∙ ap (λ (b : Bool). b && leb rank (v + 1)) (a .none v c x l) }
+
+-- 64 digits stay 64
+pub from-lt : (s rank : ℕ) → s < 2 ^ 64 → fromRank s rank < 2 ^ 64
+unfolding fromRank
+from-lt s rank h = lt-of-le-of-lt (div-mul-le-self s (2 ^ (4 * (rank - 1)))) h
+
+-- from rank 0 or 1 on all tasks are, from rank 17 on none is
+pub from-first : (s rank : ℕ) → rank ≤ 1 → s ≡ fromRank s rank
+unfolding fromRank
+from-first s rank l = let z : 4 * (rank - 1) ≡ 0 = omega arith in sym (ap (λ (j : ℕ). s / 2 ^ j * 2 ^ j) z ∙ omega (arith, div-one s))
+
+pub from-last : (s rank : ℕ) → s < 2 ^ 64 → 16 < rank → 0 ≡ fromRank s rank
+unfolding fromRank
+from-last s rank h l =
+    let long : 64 ≤ 4 * (rank - 1) = omega arith in
+    let up : 2 ^ 64 ≤ 2 ^ (4 * (rank - 1)) = pow-mono long in
+    sym (ap (λ (q : ℕ). q * 2 ^ (4 * (rank - 1))) (div-eq-of-lt (lt-of-lt-of-le h up)) ∙ zero-mul (2 ^ (4 * (rank - 1))))
+
+-- between, no digit is lost
+pub from-between : (s rank : ℕ) → s < 2 ^ 64 → s / 2 ^ (4 * (rank - 1)) * 2 ^ (4 * (rank - 1)) % 2 ^ 64 ≡ fromRank s rank
+unfolding fromRank
+from-between s rank h = mod-eq-of-lt (from-lt s rank h)

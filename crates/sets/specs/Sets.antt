@@ -1,6 +1,6 @@
 -- Sets of tasks, one for each of four cores, as the digits of one number: task v, from 0, on a core is digit 4 * v + core.
 -- Assumes nothing.
-use Prim.Native.Nat.{ℕ, _+_, _*_, _/_, _%_, _^_, _<_}
+use Prim.Native.Nat.{ℕ, _+_, _*_, _-_, _/_, _%_, _^_, _<_}
 use mathlib.Core.Path.{_≡_}
 use mathlib.Core.Logic.{_≢_}
 use mathlib.Core.Bool.{Bool, false}
@@ -35,6 +35,10 @@ common a b = bitAnd a b
 -- the sets with each task of a set of core 0, alone, on all four cores
 unfoldable pub onCores : ℕ → ℕ
 onCores s = 15 * s
+
+-- the tasks of a set from a rank on; the rank of a task is one more than its number here
+unfoldable pub fromRank : ℕ → ℕ → ℕ
+fromRank s rank = s / 2 ^ (4 * (rank - 1)) * 2 ^ (4 * (rank - 1))
 
 -- only the set of core 0 has tasks
 pub record Alone (s : ℕ) : Type 0 where

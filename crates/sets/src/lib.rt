@@ -1,7 +1,7 @@
 // Sets of tasks, one for each of four cores, as the bits of one number: task v, from 0, on core c is bit 4 * v + c.
 ghost use mathlib.Core.Path.{_≡_};
 ghost use Prim.Native.Nat.{_*_, _^_, _<_};
-ghost use Rattle.sets.specs.Sets.{ofCore, lowest as lowestOf, without as withoutOf, pushed as pushedOf, common as commonOf, onCores};
+ghost use Rattle.sets.specs.Sets.{ofCore, lowest as lowestOf, without as withoutOf, pushed as pushedOf, common as commonOf, onCores, fromRank};
 
 // The set of a core, as the set of core 0, alone.
 pub fn of_core(sets: u64, core: usize) -> u64
@@ -47,4 +47,18 @@ pub fn on_cores(set: u64) -> u64
     ensures { λ r. ⌜ r ≡ onCores set ⌝ }
 {
     15 * set
+}
+
+// The tasks of a set from a rank on; the rank of a task is one more than its number here.
+pub fn from_rank(set: u64, rank: usize) -> u64
+    ensures { λ r. ⌜ r ≡ fromRank set rank ⌝ }
+{
+    if rank <= 1 {
+        return set;
+    }
+    if 16 < rank {
+        return 0;
+    }
+    let bits = 4 * (rank - 1);
+    (set >> bits) << bits
 }

@@ -1,4 +1,4 @@
-pub mod KeepLaws
+pub mod GiveBackLaws
 pub mod TurnLaws
 pub mod ObeyLaws
 pub mod RefineLaws

@@ -29,7 +29,7 @@ use Rattle.sets.specs.Sets.{has, without}
 use Rattle.grid.specs.Grid.{counterOn, rateOn, coresOn, slotsOn, setsOn, barsIdle, floorOn, allSettledOn}
 use Rattle.walk.specs.Machine.{End, Found, NoneFound, Stopped, State, state, Onward, oneMore, idleLast, placed, tryFrom, afterCell, walkOn}
 use Rattle.grid.specs.GridFor.{Small, GridFor, Lefts}
-use Rattle.walk.proofs.KeepLaws.{given-back, KeepsOn, after-keeps, walk-keeps}
+use Rattle.walk.proofs.GiveBackLaws.{given-back, GivesBack, after-gives, walk-gives}
 use Rattle.walk.proofs.TurnLaws.{ended-stays, skip, stop, tried, back}
 use Rattle.grid.proofs.GridForLaws.{Sets, sets-same, all-settled-is, settled-within, open-tells, lefts-idle, lefts-put, sets-idle, sets-put, sets-start}
 use Rattle.walk.proofs.ObeyLaws.{cost-one, goes-prefix, task-tried, idle-tried}
@@ -160,7 +160,7 @@ module _ (c : ℕ) (t t₀ : List ℕ) (et : take c t ≡ take c t₀) where
 
 -- ---- the walk
 module _ {P : Instance} (small : Small P) (e b : ℕ) (grid : List ℕ) (ready : GridFor P e grid) where
-  module _ {first slot core sets : ℕ} {t₀ l : List ℕ} (stands : Before P first slot core sets t₀ l) (rest : ℕ) (next : Onward) (keeps : KeepsOn next)
+  module _ {first slot core sets : ℕ} {t₀ l : List ℕ} (stands : Before P first slot core sets t₀ l) (rest : ℕ) (next : Onward) (gives : GivesBack next)
       (onward : (sets₁ : ℕ) (t₁ l₁ : List ℕ) (u : ℕ) → After P first slot core sets₁ t₁ l₁ → u ≤ b
       → Shows b (cells P) (suc (first + core)) t₁ (next sets₁ t₁ l₁ u) (bwalk b (ruleOf e P) (values P) rest (take (suc (first + core)) t₁) u)) where
     -- the cell is in the table
@@ -303,7 +303,7 @@ module _ {P : Instance} (small : Small P) (e b : ℕ) (grid : List ℕ) (ready :
           -- the counter is given back what it was
           again : r .end ≡ NoneFound → set (r .left) (counterOn grid slot v) (nth l (counterOn grid slot v)) ≡ l
           unfolding l₁ r
-          again w = ap (λ x. set x (counterOn grid slot v) (nth l (counterOn grid slot v))) (keeps (without sets v) (set t (first + core) (v + 1)) l₁ (u + 1) w) ∙ given-back l (counterOn grid slot v) _
+          again w = ap (λ x. set x (counterOn grid slot v) (nth l (counterOn grid slot v))) (gives (without sets v) (set t (first + core) (v + 1)) l₁ (u + 1) w) ∙ given-back l (counterOn grid slot v) _
 
           -- the walk below it is what the rule's value gives
           value-is : oneValue b (ruleOf e P) (values P) rest (take (first + core) t₀) (suc v) u
@@ -460,7 +460,7 @@ module _ {P : Instance} (small : Small P) (e b : ℕ) (grid : List ℕ) (ready :
   walk-goes (suc rest) first slot core sets t l stands u lu ek =
       shows-same {s = tryFrom grid b first slot core sets (afterCell grid (walkOn rest grid b) first slot (core + 1)) (P .tasks) (floorOn grid t first core) t l 0 u}
       (ap (λ n. tryFrom grid b first slot core sets (afterCell grid (walkOn rest grid b) first slot (core + 1)) n (floorOn grid t first core) t l 0 u) (ready .tasks)) refl
-      (cell-tells stands rest (afterCell grid (walkOn rest grid b) first slot (core + 1)) (after-keeps grid (walkOn rest grid b) (walk-keeps rest grid b) first slot (core + 1))
+      (cell-tells stands rest (afterCell grid (walkOn rest grid b) first slot (core + 1)) (after-gives grid (walkOn rest grid b) (walk-gives rest grid b) first slot (core + 1))
       (λ sets₁ t₁ l₁ u₁ after lu₁. after-tells rest (walk-goes rest) (stands .first-is) (stands .slot-in) (stands .core-in) (omega arith) sets₁ t₁ l₁ after u₁ lu₁) u lu)
 
   -- before the first cell no job ends

@@ -10,16 +10,16 @@ use mathlib.Core.Path.{_≡_, refl, sym, ap, subst, _∙_}
 use mathlib.Core.Logic.{_≢_, inl, inr}
 use mathlib.Core.Bool.{Bool, true, false, not, _&&_}
 use mathlib.Core.List.{List}
-use borrow.Author.Tests.{lt-ltb, le-ltb, le-leb, lt-leb, eq-eqb, ne-eqb}
+use borrow.Author.Tests.{lt-ltb, le-ltb, eq-eqb, ne-eqb}
 use lib.ListN.{set}
 use Rattle.laws.specs.Lists.{nth}
 use lib.Count.{trailing-of-zero}
-use Rattle.sets.specs.Sets.{has, ofCore, lowest, without, Alone}
-use Rattle.sets.proofs.SetLaws.{none-has, of-core-has, of-core-alone, of-core-lt, without-has, without-alone, without-lt, lowest-in, lowest-first}
+use Rattle.sets.specs.Sets.{has, ofCore, fromRank, lowest, without, Alone}
+use Rattle.sets.proofs.SetLaws.{none-has, of-core-has, of-core-alone, of-core-lt, without-has, without-alone, without-lt, lowest-in, lowest-first, from-has, from-alone, from-lt}
 use Rattle.grid.proofs.ReadLaws.{at-slot, sets-none, due-starves, due-still, none-starved, due-only-last}
 use Rattle.grid.specs.Grid.{counterOn, rateOn, tasksOn, coresOn, slotsOn, cellsOn, setsOn, barsIdle, floorOn, allSettledOn, noneDue, firstDueOn, dueOn, OnGrid}
 use Rattle.walk.specs.Machine.{End, Found, NoneFound, Stopped, walkNumber, State, state, Onward, unlessEnded, idleLast, placed, tryFrom, afterCell, walkOn, Stands, firstOn, cellsLeft, full, Leaves, Ran, RanAfter}
-use Rattle.walk.proofs.KeepLaws.{given-back, KeepsOn, after-keeps, walk-keeps}
+use Rattle.walk.proofs.GiveBackLaws.{given-back, GivesBack, after-gives, walk-gives}
 
 -- ---- where the walk stands
 module _ {grid : List ℕ} (place : ℕ) (fits : OnGrid grid (place / 4)) where
@@ -114,14 +114,14 @@ module _ (grid : List ℕ) (limit first slot core sets : ℕ) (next : Onward) (j
       stays : (r .end ≡ NoneFound → ⊥) → tryFrom grid limit first slot core sets next (suc j) floor t l v u ≡ r
       stays x = tried ∙ ended-stays (r .end) r _ x
 
--- values that may not stand there
+-- values that are not tried
 pub skips-to : (grid : List ℕ) (limit first slot core sets : ℕ) (next : Onward) (floor : ℕ) (t l : List ℕ) (u z j v : ℕ)
-    → ((w : ℕ) → v ≤ w → w < v + z → has sets w core ≡ false)
+    → ((w : ℕ) → v ≤ w → w < v + z → has sets w core && leb floor (w + 1) ≡ false)
     → tryFrom grid limit first slot core sets next (j + z) floor t l v u ≡ tryFrom grid limit first slot core sets next j floor t l (v + z) u
 skips-to grid limit first slot core sets next floor t l u zero j v h = λ i. tryFrom grid limit first slot core sets next (add-zero j i) floor t l (sym (add-zero v) i) u
 skips-to grid limit first slot core sets next floor t l u (suc z) j v h =
     ap (λ k. tryFrom grid limit first slot core sets next k floor t l v u) (add-suc j z)
-    ∙ skip grid limit first slot core sets next (j + z) floor t l v u (ap (λ b. b && leb floor (v + 1)) (h v (omega arith) (omega arith)))
+    ∙ skip grid limit first slot core sets next (j + z) floor t l v u (h v (omega arith) (omega arith))
     ∙ skips-to grid limit first slot core sets next floor t l u z j (v + 1) (λ w a b. h w (omega arith) (omega arith))
     ∙ ap (λ x. tryFrom grid limit first slot core sets next j floor t l x u) (omega arith)
 
@@ -129,9 +129,9 @@ skips-to grid limit first slot core sets next floor t l u (suc z) j v h =
 abbrev pub onward : List ℕ → ℕ → Onward
 onward grid place = afterCell grid (walkOn (cellsLeft grid place) grid full) (firstOn grid place) (place / 4) (place % 4 + 1)
 
--- it keeps the work left
-onward-keeps : (grid : List ℕ) (place : ℕ) → KeepsOn (onward grid place)
-onward-keeps grid place = after-keeps grid (walkOn (cellsLeft grid place) grid full) (walk-keeps (cellsLeft grid place) grid full) (firstOn grid place) (place / 4) (place % 4 + 1)
+-- it gives back the work left
+onward-gives : (grid : List ℕ) (place : ℕ) → GivesBack (onward grid place)
+onward-gives grid place = after-gives grid (walkOn (cellsLeft grid place) grid full) (walk-gives (cellsLeft grid place) grid full) (firstOn grid place) (place / 4) (place % 4 + 1)
 
 -- the values of the cell of a place, from v on
 abbrev pub still : List ℕ → ℕ → ℕ → ℕ → ℕ → List ℕ → List ℕ → ℕ → ℕ → State
@@ -145,7 +145,7 @@ pub record Turn (grid : List ℕ) (place sets first : ℕ) (t₀ l₀ : List ℕ
   pub next-in : next ≤ tasksOn grid
   pub alone : Alone rest
   pub few : rest < 2 ^ 64
-  pub rest-is : (v : ℕ) → next ≤ v → v < 16 → has rest v 0 ≡ has sets v (place % 4)
+  pub rest-is : (v : ℕ) → next ≤ v → v < 16 → has rest v 0 ≡ has sets v (place % 4) && leb floor (v + 1)
   pub none-before : (v : ℕ) → v < next → has rest v 0 ≡ false
   pub most : used ≤ full
   pub kept : l ≡ l₀
@@ -160,17 +160,18 @@ starves-on grid place sets t l u h f = rw (le-ltb (place % 4 + 1) (coresOn grid)
 
 module _ {grid : List ℕ} {place sets first : ℕ} {t₀ l₀ : List ℕ} {tries floor : ℕ} where
   -- before the first value
-  pub begins : Stands grid place sets → first ≡ firstOn grid place → {rest : ℕ} → rest ≡ ofCore sets (place % 4) → floor ≡ floorOn grid t₀ first (place % 4) → tries ≤ full
+  pub begins : Stands grid place sets → first ≡ firstOn grid place → {set rest : ℕ} → set ≡ ofCore sets (place % 4) → rest ≡ fromRank set floor → floor ≡ floorOn grid t₀ first (place % 4) → tries ≤ full
       → Turn grid place sets first t₀ l₀ tries floor t₀ l₀ tries rest
   unfolding walkOn
-  begins s e er ef m = record {
+  begins s e {set} es er ef m = record {
     stands = s;
     first-is = e;
     next = 0;
     next-in = omega arith;
-    alone = rw er (of-core-alone sets (place % 4));
-    few = rw er (of-core-lt sets (place % 4));
-    rest-is = λ v _ lv. ap (λ x. has x v 0) er ∙ of-core-has sets (place % 4) v (omega (arith, s .core-in, s .fits .cores)) lv;
+    alone = rw (er, es) (from-alone (ofCore sets (place % 4)) floor (of-core-alone sets (place % 4)));
+    few = rw (er, es) (from-lt (ofCore sets (place % 4)) floor (of-core-lt sets (place % 4)));
+    rest-is = λ v _ lv. ap (λ x. has x v 0) er ∙ from-has set floor v 0 (omega arith)
+        ∙ ap (λ b. b && leb floor (v + 1)) (ap (λ x. has x v 0) es ∙ of-core-has sets (place % 4) v (omega (arith, s .core-in, s .fits .cores)) lv);
     none-before = λ v l. absurd (omega arith);
     most = m;
     kept = refl;
@@ -202,21 +203,21 @@ module _ {grid : List ℕ} {place sets first : ℕ} {t₀ l₀ : List ℕ} {trie
         | inr h ↦ h
       ]
 
-      -- it may stand there
-      may : has sets task (place % 4) ≡ true
-      may = sym (turn .rest-is task not-before (there .0)) ∙ there .1
+      -- it is tried
+      goes : has sets task (place % 4) && leb floor (task + 1) ≡ true
+      goes = sym (turn .rest-is task not-before (there .0)) ∙ there .1
 
       -- it is one of the list's
       pub task-in : task < tasksOn grid
       task-in = elim (lt-or-ge task (tasksOn grid)) [
         | inl h ↦ h
-        | inr h ↦ absurd (apart (sym may ∙ turn .stands .within task (place % 4) h (omega (arith, turn .stands .core-in, turn .stands .fits .cores))))
+        | inr h ↦ absurd (apart (sym goes ∙ ap (λ b. b && leb floor (task + 1)) (turn .stands .within task (place % 4) h (omega (arith, turn .stands .core-in, turn .stands .fits .cores)))))
       ]
 
       pub task-few : task < 16
       task-few = there .0
 
-      -- those between may not
+      -- those between are not
       values : walkOn (suc (cellsLeft grid place)) grid full (firstOn grid place) (place / 4) (place % 4) sets t₀ l₀ tries
           ≡ still grid place sets (suc (tasksOn grid - (task + 1))) floor t l task used
       values = turn .same
@@ -227,10 +228,6 @@ module _ {grid : List ℕ} {place sets first : ℕ} {t₀ l₀ : List ℕ} {trie
         where
           count : tasksOn grid - turn .next ≡ suc (tasksOn grid - (task + 1)) + (task - turn .next)
           count = omega (arith, not-before, task-in)
-
-      -- rule B does not bar it
-      goes : floor ≤ task + 1 → has sets task (place % 4) && leb floor (task + 1) ≡ true
-      goes low = rw (may, le-leb floor (task + 1) low)
 
       module _ {rest′ : ℕ} (er : rest′ ≡ without rest task) where
         -- the tasks up to this one are gone
@@ -251,7 +248,7 @@ module _ {grid : List ℕ} {place sets first : ℕ} {t₀ l₀ : List ℕ} {trie
           ]
         ]
 
-        -- a turn with the task tried or passed over
+        -- a turn with the task tried
         after : (t′ l′ : List ℕ) (used′ : ℕ) → used′ ≤ full → l′ ≡ l₀
             → walkOn (suc (cellsLeft grid place)) grid full (firstOn grid place) (place / 4) (place % 4) sets t₀ l₀ tries
             ≡ still grid place sets (tasksOn grid - (task + 1)) floor t′ l′ (task + 1) used′
@@ -270,12 +267,7 @@ module _ {grid : List ℕ} {place sets first : ℕ} {t₀ l₀ : List ℕ} {trie
           same = e;
         }
 
-        -- a value that rule B bars
-        pub bars : task + 1 < floor → Turn grid place sets first t₀ l₀ tries floor t l used rest′
-        bars less = after t l used (turn .most) (turn .kept)
-            (values ∙ skip grid full (firstOn grid place) (place / 4) (place % 4) sets (onward grid place) (tasksOn grid - (task + 1)) floor t l task used (rw (may, lt-leb floor (task + 1) less)))
-
-        module _ (low : floor ≤ task + 1) (q : used ≢ full) {k : ℕ} (ek : k ≡ counterOn grid (place / 4) task) where
+        module _ (q : used ≢ full) {k : ℕ} (ek : k ≡ counterOn grid (place / 4) task) where
           -- a value that leaves a job starved: no more than a try
           module _ {due : ℕ} (ed : due ≡ dueOn grid l₀ (place / 4) (place % 4)) (some-due : due ≢ noneDue) (other : due ≢ k) where
             -- the work left below it
@@ -296,7 +288,7 @@ module _ {grid : List ℕ} {place sets first : ℕ} {t₀ l₀ : List ℕ} {trie
             pub passes : Turn grid place sets first t₀ l₀ tries floor (set t (first + place % 4) (task + 1)) l (used + 1) rest′
             unfolding starved-there less-left
             passes = after (set t (first + place % 4) (task + 1)) l (used + 1) (omega (arith, turn .most)) (turn .kept)
-                (values ∙ back grid full (firstOn grid place) (place / 4) (place % 4) sets (onward grid place) (tasksOn grid - (task + 1)) floor t l task used (goes low) q starved-there comes-to refl
+                (values ∙ back grid full (firstOn grid place) (place / 4) (place % 4) sets (onward grid place) (tasksOn grid - (task + 1)) floor t l task used goes q starved-there comes-to refl
                 ∙ ap (λ x. still grid place sets (tasksOn grid - (task + 1)) floor (set t (first + place % 4) (task + 1)) x (task + 1) (used + 1)) (given-back l (counterOn grid (place / 4) task) _))
 
           -- a value that is put into the cell: the work left is less by its rate, and the walk goes on with the slot's next core
@@ -314,7 +306,7 @@ module _ {grid : List ℕ} {place sets first : ℕ} {t₀ l₀ : List ℕ} {trie
             pub backs : r < 4294967296 → {l″ : List ℕ} → l″ ≡ set l′ k had → Turn grid place sets first t₀ l₀ tries floor t′ l″ r rest′
             unfolding below
             backs small-r {l″} eb = after t′ l″ r (omega (arith, ran .leaves .most, nothing .1)) (again ∙ turn .kept)
-                (values ∙ back grid full (firstOn grid place) (place / 4) (place % 4) sets (onward grid place) (tasksOn grid - (task + 1)) floor t l task used (goes low) q below went (nothing .0)
+                (values ∙ back grid full (firstOn grid place) (place / 4) (place % 4) sets (onward grid place) (tasksOn grid - (task + 1)) floor t l task used goes q below went (nothing .0)
                 ∙ (λ i. still grid place sets (tasksOn grid - (task + 1)) floor (sym (ran .leaves .table) i) (given i) (task + 1) (nothing .1 i)))
               where
                 nothing : (below .end ≡ NoneFound) × (below .tries ≡ r)
@@ -325,21 +317,21 @@ module _ {grid : List ℕ} {place sets first : ℕ} {t₀ l₀ : List ℕ} {trie
 
                 again : l″ ≡ l
                 again = eb ∙ ap (λ x. set l′ k x) eh
-                    ∙ ap (λ x. set x k (nth l k)) (ran .leaves .left ∙ onward-keeps grid place sets₁ _ l₁ (used + 1) (nothing .0) ∙ el) ∙ given-back l k _
+                    ∙ ap (λ x. set x k (nth l k)) (ran .leaves .left ∙ onward-gives grid place sets₁ _ l₁ (used + 1) (nothing .0) ∙ el) ∙ given-back l k _
 
             -- it comes back with an end
             pub ends : 4294967296 ≤ r → Ran grid place sets t₀ l₀ tries r t′ l′
             unfolding below
             ends big = record {
-              leaves = leaves-same (sym (values ∙ stays grid full (firstOn grid place) (place / 4) (place % 4) sets (onward grid place) (tasksOn grid - (task + 1)) floor t l task used (goes low) q below went
+              leaves = leaves-same (sym (values ∙ stays grid full (firstOn grid place) (place / 4) (place % 4) sets (onward grid place) (tasksOn grid - (task + 1)) floor t l task used goes q below went
                   (number-ended (below .end) (below .tries) r (ran .leaves .answer) (omega (arith, ran .leaves .most)) big))) (ran .leaves);
             }
 
       -- a value that the limit does not allow
-      pub stops : floor ≤ task + 1 → used ≡ full → Ran grid place sets t₀ l₀ tries (8589934592 + used) t l
+      pub stops : used ≡ full → Ran grid place sets t₀ l₀ tries (8589934592 + used) t l
       unfolding walkNumber
-      stops low q = record {
-        leaves = leaves-same (sym (values ∙ stop grid full (firstOn grid place) (place / 4) (place % 4) sets (onward grid place) (tasksOn grid - (task + 1)) floor t l task used (goes low) q)) (told Stopped t l used (turn .most));
+      stops q = record {
+        leaves = leaves-same (sym (values ∙ stop grid full (firstOn grid place) (place / 4) (place % 4) sets (onward grid place) (tasksOn grid - (task + 1)) floor t l task used goes q)) (told Stopped t l used (turn .most));
       }
 
     -- after the last task: idle

@@ -64,7 +64,8 @@ fn take_back(left: &mut [u16; 16385], counter: usize, had: Work)
     left[counter] = had.0;
 }
 
-// Tries each value in the cell of a place, in order: the tasks that may stand there, and then idle.
+// Tries each value in the cell of a place, in order: the tasks that may stand there, and then idle. On the slot's last core a
+// value that leaves a job starved comes to nothing: it is counted without a call.
 fn cell(
     table: &mut [u8; 4096],
     grid: &[u16; 17499],
@@ -81,34 +82,32 @@ fn cell(
     let first = slot * wide(grid[CORES_AT]);
     let floor = floor(grid, table, first, core);
     let due = due(grid, left, slot, core);
-    let mut rest = sets::of_core(sets, core);
+    let mut rest = sets::from_rank(sets::of_core(sets, core), floor);
     while rest != 0 {
         let task = sets::lowest(rest);
         rest = sets::without(rest, task);
-        if floor <= task + 1 {
-            if used == FULL {
-                return IF_STOPPED + used as u64;
+        if used == FULL {
+            return IF_STOPPED + used as u64;
+        }
+        table[first + core] = (task + 1) as u8;
+        let counter = counter(grid, slot, task);
+        if starves(due, counter) {
+            used += 1;
+        } else {
+            let had = put(left, counter, rate(grid, task, core));
+            let r = finish_slot(
+                table,
+                grid,
+                left,
+                place,
+                used + 1,
+                sets::without(sets, task),
+            );
+            if IF_FOUND <= r {
+                return r;
             }
-            table[first + core] = (task + 1) as u8;
-            let counter = counter(grid, slot, task);
-            if starves(due, counter) {
-                used += 1;
-            } else {
-                let had = put(left, counter, rate(grid, task, core));
-                let r = finish_slot(
-                    table,
-                    grid,
-                    left,
-                    place,
-                    used + 1,
-                    sets::without(sets, task),
-                );
-                if IF_FOUND <= r {
-                    return r;
-                }
-                take_back(left, counter, had);
-                used = r as u32;
-            }
+            take_back(left, counter, had);
+            used = r as u32;
         }
     }
     if bars_idle(grid, sets, core) {

@@ -5,7 +5,7 @@ use native.Mathlib.Omega.{arith}
 use Rattle.sets.specs.Sets.{lowest}
 use Rattle.grid.proofs.ReadLaws.{at-slot, starves-tells}
 use Rattle.walk.specs.Machine.{cellsLeft}
-use Rattle.walk.proofs.TurnLaws.{first-at, cell-in, Turn, begins, task-in, task-few, rises, bars, passes, backs, ends, stops, idle-barred, idle-stops, idle-starves, idles, stands-without, stands-core, stands-slot, core-left, goes-on, slot-left, starved, founds, next-slots}
+use Rattle.walk.proofs.TurnLaws.{first-at, cell-in, Turn, begins, task-in, task-few, rises, passes, backs, ends, stops, idle-barred, idle-stops, idle-starves, idles, stands-without, stands-core, stands-slot, core-left, goes-on, slot-left, starved, founds, next-slots}
 use Prim.Native.Nat.{ℕ, suc, _+_, _*_, _-_, _<_}
 use borrow.Fn.Kinds.{In}
 use borrow.Fn.PlainCycle.{Measures, is, falls, and}
@@ -15,6 +15,7 @@ use Rattle.walk.proofs.+cell+finish_slot.Lts-cell as cell-lts
 use Rattle.walk.proofs.finish_slot.Reads as finish-slot
 use Rattle.walk.proofs.finish_slot.Kinds as finish-slot-kinds
 use Rattle.walk.proofs.+cell+finish_slot.Lts-finish_slot as finish-slot-lts
+use Rattle.sets.proofs.from_rank.Reads as from-rank-reads
 use Rattle.sets.proofs.lowest.Reads as lowest-reads
 use Rattle.sets.proofs.of_core.Reads as of-core-reads
 use Rattle.sets.proofs.without.Reads as without-reads
@@ -53,7 +54,7 @@ finish-slot-below t =
     and 3 finish-slot-kinds.ps (falls 3 finish-slot-kinds.ps _<_ μ-finish-slot t) finish-slot.Pre
 
 abbrev cell-claims : ℕ → cell-lts.Claims
-cell-claims t = (wide-reads.Asked, wide-reads.Learnt, floor-reads.Asked, floor-reads.Learnt, due-reads.Asked, due-reads.Learnt, of-core-reads.Asked, of-core-reads.Learnt, lowest-reads.Asked, lowest-reads.Learnt, without-reads.Asked, without-reads.Learnt, counter-reads.Asked, counter-reads.Learnt, starves-reads.Asked, starves-reads.Learnt, rate-reads.Asked, rate-reads.Learnt, put-reads.Asked, put-reads.Learnt, finish-slot-below t, finish-slot.Post, take-back-reads.Asked, take-back-reads.Learnt, bars-idle-reads.Asked, bars-idle-reads.Learnt)
+cell-claims t = (wide-reads.Asked, wide-reads.Learnt, floor-reads.Asked, floor-reads.Learnt, due-reads.Asked, due-reads.Learnt, of-core-reads.Asked, of-core-reads.Learnt, from-rank-reads.Asked, from-rank-reads.Learnt, lowest-reads.Asked, lowest-reads.Learnt, without-reads.Asked, without-reads.Learnt, counter-reads.Asked, counter-reads.Learnt, starves-reads.Asked, starves-reads.Learnt, rate-reads.Asked, rate-reads.Learnt, put-reads.Asked, put-reads.Learnt, finish-slot-below t, finish-slot.Post, take-back-reads.Asked, take-back-reads.Learnt, bars-idle-reads.Asked, bars-idle-reads.Learnt)
 
 abbrev finish-slot-claims : ℕ → finish-slot-lts.Claims
 finish-slot-claims t = (wide-reads.Asked, wide-reads.Learnt, cell-below t, cell.Post, first-due-reads.Asked, first-due-reads.Learnt, enter-reads.Asked, enter-reads.Learnt)
@@ -84,27 +85,23 @@ cell-of-core-requires t c κs =
 
 cell-loop-holds : (t : ℕ) → cell-lts.Need-loop-holds (cell-claims t) (cell-at t) cell.Post cell-Inv-loop cell-μ-loop
 cell-loop-holds t c =
-    begins (c .before .before .before .before .before .before .before .pre .1) (first-at (c .before .before .before .before .before .before .before .args .grid .now) _ (c .before .before .before .before .before .wide .ensures .0)) (c .of-core .ensures) (c .before .before .before .floor .ensures) (omega arith)
+    begins (c .before .before .before .before .before .before .before .before .pre .1) (first-at (c .before .before .before .before .before .before .before .before .args .grid .now) _ (c .before .before .before .before .before .before .wide .ensures .0)) (c .before .of-core .ensures) (c .from-rank .ensures) (c .before .before .before .before .floor .ensures) (omega arith)
 
 cell-without-requires : (t : ℕ) → cell-lts.Need-without-requires (cell-claims t) (cell-at t) cell.Post cell-Inv-loop cell-μ-loop
 cell-without-requires t c κs =
     task-few (c .before .before .loop .inv) (c .before .loop-test .taken) (c .lowest .ensures)
 
-cell-add-if1 : (t : ℕ) → cell-lts.Need-add-if1 (cell-claims t) (cell-at t) cell.Post cell-Inv-loop cell-μ-loop
-cell-add-if1 t c =
-    omega (arith, task-few (c .before .before .before .loop .inv) (c .before .before .loop-test .taken) (c .before .lowest .ensures))
-
 cell-returns : (t : ℕ) → cell-lts.Need-returns (cell-claims t) (cell-at t) cell.Post cell-Inv-loop cell-μ-loop
 cell-returns t c =
-    stops (c .before .before .before .before .before .loop .inv) (c .before .before .before .before .loop-test .taken) (c .before .before .before .lowest .ensures) (c .before .if1 .taken) (c .if2 .taken)
+    stops (c .before .before .before .before .loop .inv) (c .before .before .before .loop-test .taken) (c .before .before .lowest .ensures) (c .if1 .taken)
 
 cell-add-table : (t : ℕ) → cell-lts.Need-add-table (cell-claims t) (cell-at t) cell.Post cell-Inv-loop cell-μ-loop
 cell-add-table t c =
-    omega (arith, task-few (c .before .before .before .before .before .loop .inv) (c .before .before .before .before .loop-test .taken) (c .before .before .before .lowest .ensures))
+    omega (arith, task-few (c .before .before .before .before .loop .inv) (c .before .before .before .loop-test .taken) (c .before .before .lowest .ensures))
 
 cell-cast-table : (t : ℕ) → cell-lts.Need-cast-table (cell-claims t) (cell-at t) cell.Post cell-Inv-loop cell-μ-loop
 cell-cast-table t c =
-    omega (arith, task-few (c .before .before .before .before .before .loop .inv) (c .before .before .before .before .loop-test .taken) (c .before .before .before .lowest .ensures))
+    omega (arith, task-few (c .before .before .before .before .loop .inv) (c .before .before .before .loop-test .taken) (c .before .before .lowest .ensures))
 
 cell-add-table-2 : (t : ℕ) → cell-lts.Need-add-table-2 (cell-claims t) (cell-at t) cell.Post cell-Inv-loop cell-μ-loop
 cell-add-table-2 t c =
@@ -116,20 +113,20 @@ cell-element-write-table t c =
 
 cell-counter-requires : (t : ℕ) → cell-lts.Need-counter-requires (cell-claims t) (cell-at t) cell.Post cell-Inv-loop cell-μ-loop
 cell-counter-requires t c κs =
-    (c .before .before .before .before .before .before .before .before .before .before .before .before .before .pre .1 .fits, task-in (c .before .before .before .before .before .loop .inv) (c .before .before .before .before .loop-test .taken) (c .before .before .before .lowest .ensures))
+    (c .before .before .before .before .before .before .before .before .before .before .before .before .before .pre .1 .fits, task-in (c .before .before .before .before .loop .inv) (c .before .before .before .loop-test .taken) (c .before .before .lowest .ensures))
 
 cell-loop-less : (t : ℕ) → cell-lts.Need-loop-less (cell-claims t) (cell-at t) cell.Post cell-Inv-loop cell-μ-loop
 cell-loop-less t c =
-    rises (c .before .before .before .before .before .before .before .before .loop .inv) (c .before .before .before .before .before .before .before .loop-test .taken) (c .before .before .before .before .before .before .lowest .ensures) (c .before .before .before .before .before .without .ensures)
+    rises (c .before .before .before .before .before .before .before .loop .inv) (c .before .before .before .before .before .before .loop-test .taken) (c .before .before .before .before .before .lowest .ensures) (c .before .before .before .before .without .ensures)
 
 cell-loop-again : (t : ℕ) → cell-lts.Need-loop-again (cell-claims t) (cell-at t) cell.Post cell-Inv-loop cell-μ-loop
 cell-loop-again t c =
-    let s = starves-tells _ _ (c .before .starves .ensures) (c .if3 .taken) in
-    passes (c .before .before .before .before .before .before .before .before .loop .inv) (c .before .before .before .before .before .before .before .loop-test .taken) (c .before .before .before .before .before .before .lowest .ensures) (c .before .before .before .before .before .without .ensures) (c .before .before .before .before .if1 .taken) (c .before .before .before .if2 .left) (c .before .before .counter .ensures .0) (c .before .before .before .before .before .before .before .before .before .before .due .ensures) (s .0) (s .1)
+    let s = starves-tells _ _ (c .before .starves .ensures) (c .if2 .taken) in
+    passes (c .before .before .before .before .before .before .before .loop .inv) (c .before .before .before .before .before .before .loop-test .taken) (c .before .before .before .before .before .lowest .ensures) (c .before .before .before .before .without .ensures) (c .before .before .before .if1 .left) (c .before .before .counter .ensures .0) (c .before .before .before .before .before .before .before .before .before .before .due .ensures) (s .0) (s .1)
 
 cell-rate-requires : (t : ℕ) → cell-lts.Need-rate-requires (cell-claims t) (cell-at t) cell.Post cell-Inv-loop cell-μ-loop
 cell-rate-requires t c κs =
-    (task-few (c .before .before .before .before .before .before .before .before .before .loop .inv) (c .before .before .before .before .before .before .before .before .loop-test .taken) (c .before .before .before .before .before .before .before .lowest .ensures), omega arith)
+    (task-few (c .before .before .before .before .before .before .before .before .loop .inv) (c .before .before .before .before .before .before .before .loop-test .taken) (c .before .before .before .before .before .before .lowest .ensures), omega arith)
 
 cell-put-requires : (t : ℕ) → cell-lts.Need-put-requires (cell-claims t) (cell-at t) cell.Post cell-Inv-loop cell-μ-loop
 cell-put-requires t c κs =
@@ -137,31 +134,23 @@ cell-put-requires t c κs =
 
 cell-without-requires-2 : (t : ℕ) → cell-lts.Need-without-requires-2 (cell-claims t) (cell-at t) cell.Post cell-Inv-loop cell-μ-loop
 cell-without-requires-2 t c κs =
-    task-few (c .before .before .before .before .before .before .before .before .before .before .before .before .before .loop .inv) (c .before .before .before .before .before .before .before .before .before .before .before .before .loop-test .taken) (c .before .before .before .before .before .before .before .before .before .before .before .lowest .ensures)
+    task-few (c .before .before .before .before .before .before .before .before .before .before .before .before .loop .inv) (c .before .before .before .before .before .before .before .before .before .before .before .loop-test .taken) (c .before .before .before .before .before .before .before .before .before .before .lowest .ensures)
 
 cell-finish-slot-requires : (t : ℕ) → cell-lts.Need-finish-slot-requires (cell-claims t) (cell-at t) cell.Post cell-Inv-loop cell-μ-loop
 cell-finish-slot-requires t c κs =
-    (omega (arith, c .before .before .before .before .before .before .before .before .before .before .before .before .before .before .before .before .before .before .before .before .before .before .pre .0), stands-without (c .before .before .before .before .before .before .before .before .before .before .before .before .before .before .before .before .before .before .before .before .before .before .pre .1) (task-few (c .before .before .before .before .before .before .before .before .before .before .before .before .before .before .loop .inv) (c .before .before .before .before .before .before .before .before .before .before .before .before .before .loop-test .taken) (c .before .before .before .before .before .before .before .before .before .before .before .before .lowest .ensures)) (c .without2 .ensures))
+    (omega (arith, c .before .before .before .before .before .before .before .before .before .before .before .before .before .before .before .before .before .before .before .before .before .before .pre .0), stands-without (c .before .before .before .before .before .before .before .before .before .before .before .before .before .before .before .before .before .before .before .before .before .before .pre .1) (task-few (c .before .before .before .before .before .before .before .before .before .before .before .before .before .loop .inv) (c .before .before .before .before .before .before .before .before .before .before .before .before .loop-test .taken) (c .before .before .before .before .before .before .before .before .before .before .before .lowest .ensures)) (c .without2 .ensures))
 
 cell-returns-2 : (t : ℕ) → cell-lts.Need-returns-2 (cell-claims t) (cell-at t) cell.Post cell-Inv-loop cell-μ-loop
 cell-returns-2 t c =
-    ends (c .before .before .before .before .before .before .before .before .before .before .before .before .before .before .before .before .loop .inv) (c .before .before .before .before .before .before .before .before .before .before .before .before .before .before .before .loop-test .taken) (c .before .before .before .before .before .before .before .before .before .before .before .before .before .before .lowest .ensures) (c .before .before .before .before .before .before .before .before .before .before .before .before .before .without .ensures) (c .before .before .before .before .before .before .before .before .before .before .before .before .if1 .taken) (c .before .before .before .before .before .before .before .before .before .before .before .if2 .left) (c .before .before .before .before .before .before .before .before .before .before .counter .ensures .0) (c .before .before .before .before .before .before .rate .ensures) (c .before .before .before .before .before .put .ensures .0) (c .before .before .before .before .before .put .ensures .1) (c .before .before .without2 .ensures) (c .before .finish-slot .ensures) (c .if4 .taken)
+    ends (c .before .before .before .before .before .before .before .before .before .before .before .before .before .before .before .loop .inv) (c .before .before .before .before .before .before .before .before .before .before .before .before .before .before .loop-test .taken) (c .before .before .before .before .before .before .before .before .before .before .before .before .before .lowest .ensures) (c .before .before .before .before .before .before .before .before .before .before .before .before .without .ensures) (c .before .before .before .before .before .before .before .before .before .before .before .if1 .left) (c .before .before .before .before .before .before .before .before .before .before .counter .ensures .0) (c .before .before .before .before .before .before .rate .ensures) (c .before .before .before .before .before .put .ensures .0) (c .before .before .before .before .before .put .ensures .1) (c .before .before .without2 .ensures) (c .before .finish-slot .ensures) (c .if3 .taken)
 
 cell-loop-less-2 : (t : ℕ) → cell-lts.Need-loop-less-2 (cell-claims t) (cell-at t) cell.Post cell-Inv-loop cell-μ-loop
 cell-loop-less-2 t c =
-    rises (c .before .before .before .before .before .before .before .before .before .before .before .before .before .before .before .before .before .before .loop .inv) (c .before .before .before .before .before .before .before .before .before .before .before .before .before .before .before .before .before .loop-test .taken) (c .before .before .before .before .before .before .before .before .before .before .before .before .before .before .before .before .lowest .ensures) (c .before .before .before .before .before .before .before .before .before .before .before .before .before .before .before .without .ensures)
+    rises (c .before .before .before .before .before .before .before .before .before .before .before .before .before .before .before .before .before .loop .inv) (c .before .before .before .before .before .before .before .before .before .before .before .before .before .before .before .before .loop-test .taken) (c .before .before .before .before .before .before .before .before .before .before .before .before .before .before .before .lowest .ensures) (c .before .before .before .before .before .before .before .before .before .before .before .before .before .before .without .ensures)
 
 cell-loop-again-2 : (t : ℕ) → cell-lts.Need-loop-again-2 (cell-claims t) (cell-at t) cell.Post cell-Inv-loop cell-μ-loop
 cell-loop-again-2 t c =
-    backs (c .before .before .before .before .before .before .before .before .before .before .before .before .before .before .before .before .before .before .loop .inv) (c .before .before .before .before .before .before .before .before .before .before .before .before .before .before .before .before .before .loop-test .taken) (c .before .before .before .before .before .before .before .before .before .before .before .before .before .before .before .before .lowest .ensures) (c .before .before .before .before .before .before .before .before .before .before .before .before .before .before .before .without .ensures) (c .before .before .before .before .before .before .before .before .before .before .before .before .before .before .if1 .taken) (c .before .before .before .before .before .before .before .before .before .before .before .before .before .if2 .left) (c .before .before .before .before .before .before .before .before .before .before .before .before .counter .ensures .0) (c .before .before .before .before .before .before .before .before .rate .ensures) (c .before .before .before .before .before .before .before .put .ensures .0) (c .before .before .before .before .before .before .before .put .ensures .1) (c .before .before .before .before .without2 .ensures) (c .before .before .before .finish-slot .ensures) (c .before .before .if4 .left) (c .take-back .ensures)
-
-cell-loop-less-3 : (t : ℕ) → cell-lts.Need-loop-less-3 (cell-claims t) (cell-at t) cell.Post cell-Inv-loop cell-μ-loop
-cell-loop-less-3 t c =
-    rises (c .before .before .before .before .loop .inv) (c .before .before .before .loop-test .taken) (c .before .before .lowest .ensures) (c .before .without .ensures)
-
-cell-loop-again-3 : (t : ℕ) → cell-lts.Need-loop-again-3 (cell-claims t) (cell-at t) cell.Post cell-Inv-loop cell-μ-loop
-cell-loop-again-3 t c =
-    bars (c .before .before .before .before .loop .inv) (c .before .before .before .loop-test .taken) (c .before .before .lowest .ensures) (c .before .without .ensures) (c .if1 .left)
+    backs (c .before .before .before .before .before .before .before .before .before .before .before .before .before .before .before .before .before .loop .inv) (c .before .before .before .before .before .before .before .before .before .before .before .before .before .before .before .before .loop-test .taken) (c .before .before .before .before .before .before .before .before .before .before .before .before .before .before .before .lowest .ensures) (c .before .before .before .before .before .before .before .before .before .before .before .before .before .before .without .ensures) (c .before .before .before .before .before .before .before .before .before .before .before .before .before .if1 .left) (c .before .before .before .before .before .before .before .before .before .before .before .before .counter .ensures .0) (c .before .before .before .before .before .before .before .before .rate .ensures) (c .before .before .before .before .before .before .before .put .ensures .0) (c .before .before .before .before .before .before .before .put .ensures .1) (c .before .before .before .before .without2 .ensures) (c .before .before .before .finish-slot .ensures) (c .before .before .if3 .left) (c .take-back .ensures)
 
 cell-bars-idle-requires : (t : ℕ) → cell-lts.Need-bars-idle-requires (cell-claims t) (cell-at t) cell.Post cell-Inv-loop cell-μ-loop
 cell-bars-idle-requires t c κs =
@@ -169,31 +158,31 @@ cell-bars-idle-requires t c κs =
 
 cell-returns-3 : (t : ℕ) → cell-lts.Need-returns-3 (cell-claims t) (cell-at t) cell.Post cell-Inv-loop cell-μ-loop
 cell-returns-3 t c =
-    idle-barred (c .before .before .before .loop .inv) (c .before .before .loop-test .left) (c .before .bars-idle .ensures) (c .if5 .taken)
+    idle-barred (c .before .before .before .loop .inv) (c .before .before .loop-test .left) (c .before .bars-idle .ensures) (c .if4 .taken)
 
 cell-returns-4 : (t : ℕ) → cell-lts.Need-returns-4 (cell-claims t) (cell-at t) cell.Post cell-Inv-loop cell-μ-loop
 cell-returns-4 t c =
-    idle-stops (c .before .before .before .before .loop .inv) (c .before .before .before .loop-test .left) (c .before .before .bars-idle .ensures) (c .before .if5 .left) (c .if6 .taken)
+    idle-stops (c .before .before .before .before .loop .inv) (c .before .before .before .loop-test .left) (c .before .before .bars-idle .ensures) (c .before .if4 .left) (c .if5 .taken)
 
 cell-add-table-3 : (t : ℕ) → cell-lts.Need-add-table-3 (cell-claims t) (cell-at t) cell.Post cell-Inv-loop cell-μ-loop
 cell-add-table-3 t c =
-    omega (arith, cell-in _ _ (c .before .before .before .before .before .before .before .before .before .before .wide .ensures .0) (c .before .before .before .before .before .before .before .before .before .before .before .before .pre .1 .fits) (c .before .before .before .before .before .before .before .before .before .before .before .before .pre .1 .core-in))
+    omega (arith, cell-in _ _ (c .before .before .before .before .before .before .before .before .before .before .before .wide .ensures .0) (c .before .before .before .before .before .before .before .before .before .before .before .before .before .pre .1 .fits) (c .before .before .before .before .before .before .before .before .before .before .before .before .before .pre .1 .core-in))
 
 cell-element-write-table-2 : (t : ℕ) → cell-lts.Need-element-write-table-2 (cell-claims t) (cell-at t) cell.Post cell-Inv-loop cell-μ-loop
 cell-element-write-table-2 t c =
-    cell-in _ _ (c .before .before .before .before .before .before .before .before .before .before .wide .ensures .0) (c .before .before .before .before .before .before .before .before .before .before .before .before .pre .1 .fits) (c .before .before .before .before .before .before .before .before .before .before .before .before .pre .1 .core-in)
+    cell-in _ _ (c .before .before .before .before .before .before .before .before .before .before .before .wide .ensures .0) (c .before .before .before .before .before .before .before .before .before .before .before .before .before .pre .1 .fits) (c .before .before .before .before .before .before .before .before .before .before .before .before .before .pre .1 .core-in)
 
 cell-returns-5 : (t : ℕ) → cell-lts.Need-returns-5 (cell-claims t) (cell-at t) cell.Post cell-Inv-loop cell-μ-loop
 cell-returns-5 t c =
-    idle-starves (c .before .before .before .before .before .loop .inv) (c .before .before .before .before .loop-test .left) (c .before .before .before .bars-idle .ensures) (c .before .before .if5 .left) (c .before .if6 .left) (c .before .before .before .before .before .before .before .due .ensures) (c .if7 .taken)
+    idle-starves (c .before .before .before .before .before .loop .inv) (c .before .before .before .before .loop-test .left) (c .before .before .before .bars-idle .ensures) (c .before .before .if4 .left) (c .before .if5 .left) (c .before .before .before .before .before .before .before .before .due .ensures) (c .if6 .taken)
 
 cell-finish-slot-requires-2 : (t : ℕ) → cell-lts.Need-finish-slot-requires-2 (cell-claims t) (cell-at t) cell.Post cell-Inv-loop cell-μ-loop
 cell-finish-slot-requires-2 t c κs =
-    (omega (arith, c .before .before .before .before .before .before .before .before .before .before .before .before .before .before .before .pre .0), c .before .before .before .before .before .before .before .before .before .before .before .before .before .before .before .pre .1)
+    (omega (arith, c .before .before .before .before .before .before .before .before .before .before .before .before .before .before .before .before .pre .0), c .before .before .before .before .before .before .before .before .before .before .before .before .before .before .before .before .pre .1)
 
 cell-returns-6 : (t : ℕ) → cell-lts.Need-returns-6 (cell-claims t) (cell-at t) cell.Post cell-Inv-loop cell-μ-loop
 cell-returns-6 t c =
-    idles (c .before .before .before .before .before .before .before .before .loop .inv) (c .before .before .before .before .before .before .before .loop-test .left) (c .before .before .before .before .before .before .bars-idle .ensures) (c .before .before .before .before .before .if5 .left) (c .before .before .before .before .if6 .left) (c .finish-slot2 .ensures)
+    idles (c .before .before .before .before .before .before .before .before .loop .inv) (c .before .before .before .before .before .before .before .loop-test .left) (c .before .before .before .before .before .before .bars-idle .ensures) (c .before .before .before .before .before .if4 .left) (c .before .before .before .before .if5 .left) (c .finish-slot2 .ensures)
 
 finish-slot-cell-requires : (t : ℕ) → finish-slot-lts.Need-cell-requires (finish-slot-claims t) (finish-slot-at t) finish-slot.Post
 finish-slot-cell-requires t c κs =
@@ -231,14 +220,14 @@ pub +cell+finish-slot-spec : {M : Type 1} → statement M
 +cell+finish-slot-spec = close μ-cell μ-finish-slot
     (λ t. cell-lts.spec
     (cell-claims t) (cell-at t) cell.Post cell-Inv-loop cell-μ-loop (λ c. search needs) (λ c κs. search needs) (cell-mul-first t)
-    (cell-floor-requires t) (cell-due-requires t) (cell-of-core-requires t) (cell-loop-holds t) (λ c κs. search needs)
-    (cell-without-requires t) (cell-add-if1 t) (λ c. search needs) (λ c. search needs) (cell-returns t) (cell-add-table t)
+    (cell-floor-requires t) (cell-due-requires t) (cell-of-core-requires t) (λ c κs. search needs) (cell-loop-holds t)
+    (λ c κs. search needs) (cell-without-requires t) (λ c. search needs) (λ c. search needs) (cell-returns t) (cell-add-table t)
     (cell-cast-table t) (cell-add-table-2 t) (cell-element-write-table t) (cell-counter-requires t) (λ c κs. search needs)
     (λ c. search needs) (cell-loop-less t) (cell-loop-again t) (cell-rate-requires t) (cell-put-requires t) (λ c. search needs)
     (cell-without-requires-2 t) (cell-finish-slot-requires t) (cell-returns-2 t) (λ c κs. search needs) (λ c. search needs)
-    (cell-loop-less-2 t) (cell-loop-again-2 t) (cell-loop-less-3 t) (cell-loop-again-3 t) (cell-bars-idle-requires t) (λ c. search needs)
-    (cell-returns-3 t) (λ c. search needs) (λ c. search needs) (cell-returns-4 t) (cell-add-table-3 t) (cell-element-write-table-2 t)
-    (λ c. search needs) (λ c. search needs) (cell-returns-5 t) (λ c. search needs) (cell-finish-slot-requires-2 t) (cell-returns-6 t))
+    (cell-loop-less-2 t) (cell-loop-again-2 t) (cell-bars-idle-requires t) (λ c. search needs) (cell-returns-3 t) (λ c. search needs)
+    (λ c. search needs) (cell-returns-4 t) (cell-add-table-3 t) (cell-element-write-table-2 t) (λ c. search needs) (λ c. search needs)
+    (cell-returns-5 t) (λ c. search needs) (cell-finish-slot-requires-2 t) (cell-returns-6 t))
     λ t. finish-slot-lts.spec
     (finish-slot-claims t) (finish-slot-at t) finish-slot.Post (λ c. search needs) (λ c. search needs) (λ c κs. search needs)
     (λ c. search needs) (finish-slot-cell-requires t) (finish-slot-returns t) (finish-slot-first-due-requires t) (λ c. search needs)
