@@ -77,8 +77,9 @@ static inline uint32_t xiphomera_missed(uint64_t answer) { return (uint32_t)answ
 static inline uint32_t xiphomera_tries(uint64_t answer) { return (uint32_t)answer; }
 
 /* Makes the record for a valid table at a tick and shows slot 0: four cells, one a core, each a task or 0. A task is
- * shown as 0 until its offset has passed since the start. Refusals 1 to 8, 10 and 11 leave the record as it was and
- * write four 0 cells; after 11 a check says which fault. Stack: at most 42,336. */
+ * shown as 0 until its offset has passed since the start. A job whose window runs round the table's end may, on cores of
+ * unequal rates, be shown in slots in which it has had its work: the core can rest there. Refusals 1 to 8, 10 and 11
+ * leave the record as it was and write four 0 cells; after 11 a check says which fault. Stack: at most 42,336. */
 uint64_t xiphomera_start(xiphomera_player *player, const xiphomera_task *tasks, size_t count, uint32_t cores,
                          const uint8_t *table, size_t table_length, uint32_t tick, uint8_t cells[4]);
 
@@ -92,7 +93,7 @@ uint64_t xiphomera_step(xiphomera_player *player, uint32_t tick, uint8_t cells[4
 /* ---- The search and the checker */
 
 /* Searches a table, with engine 0 (plain) or 1 (quick) and at most `limit` tries. Unless it is refused (1 to 10), the
- * first H x m cells of the buffer are the table found, or 0; the others are not touched. Stack: 73,360 to 662,912,
+ * first H x m cells of the buffer are the table found, or 0; the others are not touched. Stack: 73,264 to 662,816,
  * growing by 144 a cell that is not idle; 864 if refused by 1 to 7. */
 uint64_t xiphomera_search(const xiphomera_task *tasks, size_t count, uint32_t cores, uint32_t engine, uint32_t limit,
                           uint8_t *table, size_t table_length);
@@ -120,7 +121,7 @@ static inline unsigned xiphomera_c(uint64_t answer) { return (uint16_t)answer; }
 
 /* Writes the text of the answer to the text of a problem and gives its bytes; gives 0 and writes nothing if `out` is
  * shorter than the longest answer. A problem without a 04 line is searched with engine 1 and at most 1000000 tries.
- * Stack: at most 667,496. */
+ * Stack: at most 667,400. */
 size_t xiphomera_plan_text(const uint8_t *text, size_t text_length, uint8_t *out, size_t out_length);
 
 #ifdef __cplusplus

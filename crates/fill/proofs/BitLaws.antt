@@ -57,7 +57,7 @@ module _ (rates : List ℕ) (v : ℕ) where
       at (suc (suc (suc zero))) l = omega (arith, bit-le 0, bit-le 1, bit-le 2, bit-le 3)
       at (suc (suc (suc (suc j)))) l = absurd (omega arith)
 
-  -- the bits that are told make the mark
+  -- the bits that are told are the task's
   pub rated-told : (a b c d : ℕ) → a ≡ ratedBit (nth rates (v * 4)) → b ≡ ratedBit (nth rates (v * 4 + 1)) → c ≡ ratedBit (nth rates (v * 4 + 2)) → d ≡ ratedBit (nth rates (v * 4 + 3))
       → a + 2 * b + 4 * c + 8 * d ≡ ratedMark rates v
   unfolding ratedMark

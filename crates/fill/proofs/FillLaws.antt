@@ -1,4 +1,4 @@
--- What stands on the grid, as the code finds it: entries, marks of rules A and B, and the loops that store them.
+-- What stands on the grid, as the code finds it: entries, sets, marks of rule B, and the loops that store them.
 -- Assumes nothing.
 use Prim.Native.Nat.{ℕ, zero, suc, _+_, _*_, _-_, _/_, _%_, _≤_, _<_}
 use mathlib.Core.Path.{_≡_, refl, sym, ap, _∙_}
@@ -133,7 +133,7 @@ module _ (e : ℕ) (b : Bool) where
       go zero x = absurd (x refl)
       go (suc e) x = rw t
 
--- ---- the marks, by their places
+-- ---- the bits of a task, by their place
 module _ (e : ℕ) (rates : List ℕ) (y : ℕ) where
   -- rule A's bit
   pub bits-even : y < 16 → taskBits e rates y ≡ quickMark e (rowEven rates y)
@@ -145,7 +145,7 @@ module _ (e : ℕ) (rates : List ℕ) (y : ℕ) where
   unfolding taskBits
   bits-rated l = rw (le-ltb y 16 l)
 
--- three numbers
+-- ---- three numbers
 module _ (n m L x : ℕ) where
   -- the tasks
   pub size-tasks : x ≡ taskCount → n ≡ sizeAt n m L x

@@ -62,11 +62,11 @@ ratedMark rates v =
     let bit : ℕ → ℕ = λ j. ratedBit (nth rates (v * 4 + j)) in
     bit 0 + 2 * bit 1 + 4 * bit 2 + 8 * bit 3
 
--- the bits of task y: 1 for the quick engine if its positive rates are equal; from 16 on, the cores on which task y - 16 has a positive rate
+-- four bits a task of the two sets, one behind the other: rule A's of task y, on core 0 alone; from 16 on, of positive rates, those of task y - 16
 unfoldable pub taskBits : ℕ → List ℕ → ℕ → ℕ
 taskBits e rates y = cond (ltb y 16) (quickMark e (rowEven rates y)) (ratedMark rates (y - 16))
 
--- the bits of the four tasks x * 4, .., x * 4 + 3, as sets
+-- the same of four tasks, from y = x * 4 on, in one place
 unfoldable pub fourTasks : ℕ → List ℕ → ℕ → ℕ
 fourTasks e rates x =
     let bits : ℕ → ℕ = λ k. taskBits e rates (x * 4 + k) in

@@ -1,4 +1,4 @@
-// The walk's grid of a sound list: the entries, the marks behind them, and the marks of the slots in which jobs end.
+// The walk's grid of a sound list: the entries, what stands behind them, and the marks of the slots in which jobs end.
 ghost use mathlib.Core.Path.{_≡_};
 ghost use Prim.Native.Nat.{ℕ, suc, _*_, _≤_, _<_, _/_, _%_};
 ghost use Rattle.laws.specs.Lists.{filled};
@@ -7,6 +7,7 @@ ghost use Rattle.fill.specs.Grid.{Fit, entryFor, entryAt, evenPair, pair
 use grid::CORES_AT;
 use grid::ENDS_AT;
 use grid::EVEN_AT;
+use grid::RATED_AT;
 use grid::RATES_AT;
 use grid::TASKS_AT;
 use grid::TWINS_AT;
@@ -29,6 +30,9 @@ const CORE_COUNT: usize = CORES_AT - RATES_AT;
 
 // And how many places they have.
 const MARKS: usize = ENDS_AT - RATES_AT;
+
+// Where the bits of positive rates begin, behind those of rule A, counted in tasks.
+const RATED_BITS: usize = (RATED_AT - EVEN_AT) * 4;
 
 // The grid's entry for the task at place v in a slot.
 fn entry(len: Slots, t: Task, v: u16, slot: Slots) -> u16
@@ -139,7 +143,7 @@ fn twin_cores(n: usize, rates: [u8; 64], x: usize) -> bool
     true
 }
 
-// A mark for rule A or B: 1 if the quick engine may use the rule.
+// What rule A or B tests of a list: 1 for the quick engine if the test passes.
 fn quick_mark(engine: u8, test: bool) -> u16
     ensures { λ r. ⌜ r ≡ quickMark engine test ⌝ }
 {
@@ -168,20 +172,20 @@ fn rated_mark(rates: [u8; 64], v: usize) -> u16
         + 8 * rated_bit(rates[k + 3])
 }
 
-// The bits of task y: 1 for the quick engine if its positive rates are equal; from 16 on, the cores on which task y - 16 has a
-// positive rate.
+// Four bits a task of the two sets, one behind the other: rule A's of task y; from 16 on, of positive rates, those of task
+// y - 16.
 fn task_bits(rates: [u8; 64], engine: u8, y: usize) -> u16
     requires { ⌜ y < 32 ⌝ }
     ensures { λ r. ⌜ (r ≡ taskBits engine rates y) × (r < 16) ⌝ }
 {
-    if y < 16 {
+    if y < RATED_BITS {
         quick_mark(engine, even_rates(rates, y))
     } else {
-        rated_mark(rates, y - 16)
+        rated_mark(rates, y - RATED_BITS)
     }
 }
 
-// The bits of the four tasks x * 4, .., x * 4 + 3, as sets.
+// The same of four tasks, from y = x * 4 on, in one place.
 fn four_tasks(rates: [u8; 64], engine: u8, x: usize) -> u16
     requires { ⌜ x < 8 ⌝ }
     ensures { λ r. ⌜ r ≡ fourTasks engine rates x ⌝ }

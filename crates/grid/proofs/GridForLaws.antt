@@ -7,7 +7,7 @@ use native.Mathlib.Decide.{ℕ-discrete}
 use native.Mathlib.Nat.{suc-inj, eq-of-mul-eq-mul-right, mul-mod-left}
 use mathlib.Core.Path.{_≡_, refl, sym, ap, ap₂, subst, _∙_}
 use mathlib.Core.Logic.{_≢_, ⊎-elim}
-use mathlib.Core.Bool.{Bool, true, false, cond, not, _&&_, and-false}
+use mathlib.Core.Bool.{Bool, true, false, cond, not, _&&_, and-true, and-false}
 use mathlib.Core.List.{List, [], _∷_}
 use lib.Arith.{digits-div, digits-mod}
 use lib.Dec.{T, leb, ltb, eqb, ltb→lt, eqb→eq, T-not}
@@ -38,7 +38,7 @@ test-same true false f g = absurd (f tt)
 test-same false true f g = absurd (g tt)
 test-same false false f g = refl
 
--- tests from m on that pass
+-- m of n tests, where the others pass
 all-fewer : (n m : ℕ) (f g : ℕ → Bool) → m ≤ n → ((v : ℕ) → v < m → f v ≡ g v) → ((v : ℕ) → m ≤ v → v < n → f v ≡ true) → all n f ≡ all m g
 all-fewer n m f g l same pass = test-same (all n f) (all m g)
     (λ h. at-all m g (λ v lv. subst T (same v lv) (all-at n f h v (omega arith))))
@@ -309,10 +309,6 @@ module _ {P : Instance} {e : ℕ} {grid : List ℕ} (small : Small P) (ready : G
       may-other : (v j : ℕ) → suc v ≢ w → every (may-tests P slot (suc (first + core)) (nth (set t (first + core) w)) v j) ≡ every (may-tests P slot (first + core) (nth t) v j)
       may-other v j x = ap₂ (λ a b. every (P .opens (suc v) slot ∷ ltb 0 (P .rate (suc v) j) ∷ a ∷ ltb 0 (P .work (suc v) - b) ∷ [])) same-free same-done
         where
-          and-true : (b : Bool) → b && true ≡ b
-          and-true true = refl
-          and-true false = refl
-
           same-free : free P (suc (first + core)) (nth (set t (first + core) w)) (suc v) ≡ free P (first + core) (nth t) (suc v)
           same-free = free-next (suc v) ∙ ap (λ b. free P (first + core) (nth t) (suc v) && not b) (ne-eqb w (suc v) (λ e. x (sym e))) ∙ and-true _
 

@@ -45,13 +45,13 @@ floor-is grid t first core j m e h = h ∙ ap (λ n. most n (twinRankOn grid t f
 
 -- ---- a slot whose jobs are settled
 module _ (grid l : List ℕ) (slot : ℕ) where
-  all-settled-not : (v : ℕ) (r : Bool) → v < tasksOn grid → endsOn grid slot ≤ v → r ≡ settledOn grid l slot v → r ≡ false → false ≡ allSettledOn grid l slot
+  all-settled-not : (v : ℕ) → v < tasksOn grid → endsOn grid slot ≤ v → settledOn grid l slot v ≡ false → allSettledOn grid l slot ≡ false
   unfolding allSettledOn
-  all-settled-not v r h ends e f = sym (all-false (tasksOn grid) _ v h (rw (le-leb (endsOn grid slot) v ends) (sym e ∙ f)))
+  all-settled-not v h ends e = all-false (tasksOn grid) _ v h (rw (le-leb (endsOn grid slot) v ends) e)
 
-  all-settled-yes : (n task : ℕ) → n ≡ tasksOn grid → n ≤ task → ((v : ℕ) → v < task → endsOn grid slot ≤ v → settledOn grid l slot v ≡ true) → true ≡ allSettledOn grid l slot
+  all-settled-yes : ((v : ℕ) → v < tasksOn grid → endsOn grid slot ≤ v → settledOn grid l slot v ≡ true) → allSettledOn grid l slot ≡ true
   unfolding allSettledOn
-  all-settled-yes n task e h passed = sym (all-true (tasksOn grid) _ (λ v i. from (leb (endsOn grid slot) v) refl (λ le. passed v (omega arith) le)))
+  all-settled-yes passed = all-true (tasksOn grid) _ (λ v i. from (leb (endsOn grid slot) v) refl (passed v i))
     where
       from : {v : ℕ} (b : Bool) → leb (endsOn grid slot) v ≡ b → (endsOn grid slot ≤ v → settledOn grid l slot v ≡ true) → imp b (settledOn grid l slot v) ≡ true
       from true e h = h (leb-true _ _ e)
@@ -148,7 +148,7 @@ module _ (grid l : List ℕ) (slot : ℕ) where
   unfolding setsOn
   sets-are n s c w z e ec ew = ap₂ common (ec ∙ ap onCores (left-all n s z e)) ew
 
-  -- a task has 4
+  -- a task has 4 bits
   bits-lt : (v : ℕ) → gate (ltb 0 (nth l (counterOn grid slot v))) 15 < 16
   bits-lt v = omega (arith, gate-le (ltb 0 (nth l (counterOn grid slot v))) 15)
 
@@ -226,7 +226,7 @@ module _ (grid l : List ℕ) (slot n v : ℕ) where
   due-over h = let z : n - v ≡ 0 = omega arith in ap (λ j. dueFrom grid l slot j v) z
 
 -- whose it is
-record Due (grid l : List ℕ) (slot due : ℕ) : Type 0 where
+record DueJob (grid l : List ℕ) (slot due : ℕ) : Type 0 where
   task : ℕ
   task-in : task < tasksOn grid
   from-mark : endsOn grid slot ≤ task
@@ -234,18 +234,18 @@ record Due (grid l : List ℕ) (slot due : ℕ) : Type 0 where
   unsettled : settledOn grid l slot task ≡ false
 
 module _ (grid l : List ℕ) (slot : ℕ) where
-  due-from : (j v : ℕ) → j ≤ tasksOn grid - v → endsOn grid slot ≤ v → dueFrom grid l slot j v ≢ noneDue → Due grid l slot (dueFrom grid l slot j v)
+  due-from : (j v : ℕ) → j ≤ tasksOn grid - v → endsOn grid slot ≤ v → dueFrom grid l slot j v ≢ noneDue → DueJob grid l slot (dueFrom grid l slot j v)
   unfolding dueFrom
   due-from zero v lj lv x = absurd (x refl)
   due-from (suc j) v lj lv x = go (settledOn grid l slot v) refl x (due-from j (suc v) (omega arith) (omega arith))
     where
       go : (b : Bool) → settledOn grid l slot v ≡ b → cond b (dueFrom grid l slot j (suc v)) (counterOn grid slot v) ≢ noneDue
-          → (dueFrom grid l slot j (suc v) ≢ noneDue → Due grid l slot (dueFrom grid l slot j (suc v)))
-          → Due grid l slot (cond b (dueFrom grid l slot j (suc v)) (counterOn grid slot v))
+          → (dueFrom grid l slot j (suc v) ≢ noneDue → DueJob grid l slot (dueFrom grid l slot j (suc v)))
+          → DueJob grid l slot (cond b (dueFrom grid l slot j (suc v)) (counterOn grid slot v))
       go true e y later = later y
       go false e y later = record { task = v; task-in = omega arith; from-mark = lv; counter-is = refl; unsettled = e }
 
-  first-due : firstDueOn grid l slot ≢ noneDue → Due grid l slot (firstDueOn grid l slot)
+  first-due : firstDueOn grid l slot ≢ noneDue → DueJob grid l slot (firstDueOn grid l slot)
   unfolding firstDueOn
   first-due x = due-from (tasksOn grid - endsOn grid slot) (endsOn grid slot) (omega arith) (omega arith) x
 
@@ -262,20 +262,19 @@ module _ (grid l : List ℕ) (slot : ℕ) where
 
   -- a job that is due starves the slot
   pub due-starves : firstDueOn grid l slot ≢ noneDue → allSettledOn grid l slot ≡ false
-  due-starves x = let d = first-due x in sym (all-settled-not grid l slot (d .task) false (d .task-in) (d .from-mark) (sym (d .unsettled)) refl)
+  due-starves x = let d = first-due x in all-settled-not grid l slot (d .task) (d .task-in) (d .from-mark) (d .unsettled)
 
   -- and so it does after another got work
   pub due-still : (k w : ℕ) → firstDueOn grid l slot ≢ noneDue → firstDueOn grid l slot ≢ k → allSettledOn grid (set l k w) slot ≡ false
   unfolding settledOn
   due-still k w x y = let d = first-due x in
-      sym (all-settled-not grid (set l k w) slot (d .task) false (d .task-in) (d .from-mark)
-      (sym (ap (λ n. imp (not (eqb (entryOn grid slot (d .task) % 2) 0)) (eqb n 0)) (getD-set-other l k (counterOn grid slot (d .task)) w 0 (λ q. y (sym (d .counter-is) ∙ q))) ∙ d .unsettled)) refl)
+      all-settled-not grid (set l k w) slot (d .task) (d .task-in) (d .from-mark)
+      (ap (λ n. imp (not (eqb (entryOn grid slot (d .task) % 2) 0)) (eqb n 0)) (getD-set-other l k (counterOn grid slot (d .task)) w 0 (λ q. y (sym (d .counter-is) ∙ q))) ∙ d .unsettled)
 
   -- else no job is starved
   pub none-starved : OnGrid grid slot → firstDueOn grid l slot ≡ noneDue → allSettledOn grid l slot ≡ true
   unfolding firstDueOn
-  none-starved fits e = sym (all-settled-yes grid l slot (tasksOn grid) (tasksOn grid) refl (omega arith)
-      (λ v lv from. due-none (tasksOn grid - endsOn grid slot) (endsOn grid slot) v (omega arith) fits e from (omega arith)))
+  none-starved fits e = all-settled-yes grid l slot (λ v lv from. due-none (tasksOn grid - endsOn grid slot) (endsOn grid slot) v (omega arith) fits e from (omega arith))
 
 -- on the slot's last core
 module _ (grid l : List ℕ) (slot core : ℕ) where
@@ -293,7 +292,7 @@ module _ (grid l : List ℕ) (slot core : ℕ) where
   pub due-only-last : dueOn grid l slot core ≢ noneDue → (coresOn grid ≤ core + 1) × (dueOn grid l slot core ≡ firstDueOn grid l slot)
   due-only-last x = ⊎-elim (λ h. absurd (x (sym (due-yet h)))) (λ h. (h, sym (due-last h))) (lt-or-ge (core + 1) (coresOn grid))
 
--- the job of a counter is put off by one that is due
+-- ---- a job that is due, and another's counter
 module _ (due k : ℕ) where
   pub starves-none : due ≡ noneDue → false ≡ starves due k
   unfolding starves

@@ -68,7 +68,7 @@ leftFrom grid l slot (suc j) v = pushed (leftFrom grid l slot j (suc v)) (gate (
 unfoldable pub setsOn : List ℕ → List ℕ → ℕ → ℕ
 setsOn grid l slot = common (onCores (leftFrom grid l slot (tasksOn grid) 0)) (ratedOn grid)
 
--- rule A bars idle on a core: a task of the core's set has equal positive rates
+-- rule A bars idle on a core: a task of the core's set is in rule A's set
 unfoldable pub barsIdle : List ℕ → ℕ → ℕ → Bool
 barsIdle grid sets core = not (eqb (common (ofCore sets core) (evensOn grid)) 0)
 
@@ -92,11 +92,11 @@ endsOn grid slot = nth grid (16475 + slot)
 unfoldable pub allSettledOn : List ℕ → List ℕ → ℕ → Bool
 allSettledOn grid l slot = all (tasksOn grid) (λ v. imp (leb (endsOn grid slot) v) (settledOn grid l slot v))
 
--- the counter of no job
+-- stands for a counter where no job is due
 abbrev pub noneDue : ℕ
 noneDue = 65536
 
--- the counter of the first job of the tasks v, v + 1, .., j of them, that has its highest-numbered slot here and work left, if there is one
+-- of the tasks v, v + 1, .., j of them, the counter of the first job that is due: that has its highest-numbered slot here and work left
 unfoldable pub dueFrom : List ℕ → List ℕ → ℕ → ℕ → ℕ → ℕ
 dueFrom grid l slot zero v = noneDue
 dueFrom grid l slot (suc j) v = cond (settledOn grid l slot v) (dueFrom grid l slot j (suc v)) (counterOn grid slot v)

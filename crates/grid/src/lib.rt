@@ -1,20 +1,19 @@
 // The walk's grid: one array, filled once for a search, with all that the walk reads of a list but its work; and how it is
 // read.
 //
-//      place   what stands there                                                          how many
-//          0   entries: for slot t and task v, at t * 16 + v, twice the counter of the
-//              task's job there, and 1 more in the job's highest-numbered slot            1024 * 16
-//      16384   rates: of task v on core c, at v * 4 + c                                     16 * 4
-//      16448   even: for rule A, the set of the tasks whose positive rates are equal        4
-//      16452   rated: the sets of the tasks whose rate on a core is positive                 4
-//      16456   twins: for rule B, at c * 4 + j, 1 if cores c and j are twins; read for j < c 4 * 4
-//      16472   the task count, the cores, the slots                                          3
-//      16475   ends: for each slot the first task whose job has its highest-numbered
-//              slot there; the task count if there is none                                1024
+//      place   how many    what stands there
+//          0   1024 * 16   entries: for slot t and task v, at t * 16 + v, twice the counter of the task's job there,
+//                          and 1 more in the job's highest-numbered slot
+//      16384   16 * 4      rates: of task v on core c, at v * 4 + c
+//      16448   4           rule A's set: the tasks whose positive rates are equal, on core 0 alone
+//      16452   4           the sets of the tasks whose rate on a core is positive
+//      16456   4 * 4       rule B's marks: at c * 4 + j, 1 if cores c and j are twins; read for j < c
+//      16472   3           the task count, the cores, the slots
+//      16475   1024        ends: for each slot the first task whose job has its highest-numbered slot there; the task
+//                          count if there is none
 //      17499
 //
-// Sets of tasks are laid out as in crate `sets`, four tasks a place. The set of rule A is empty and the marks of rule B are 0
-// for the plain engine. Tasks and cores count from 0 here.
+// A set is one number of crate `sets`, four tasks a place. Rule A's set is empty and rule B's marks are 0 for the plain engine. Tasks and cores count from 0 here.
 // Beside the grid stands `left`, the work left of each job at its counter, job * 16 + task; its last place, 16384, is the
 // counter of a task in a slot where it is closed, and is always 0.
 ghost use mathlib.Core.Path.{_≡_};
@@ -41,7 +40,7 @@ pub const SLOTS_AT: usize = 16474;
 
 pub const ENDS_AT: usize = 16475;
 
-// The counter of no job: none is due.
+// Stands for a counter where no job is due.
 pub const NONE_DUE: usize = 65536;
 
 // A number of the grid as an index, and that it is one of 16 bits.
@@ -83,7 +82,7 @@ fn some(work: Work) -> u64
 
 // The sets that stand in four places, of four tasks each.
 fn sets_at(grid: &[u16; 17499], x: usize) -> u64
-    requires { ⌜ x ≤ 16471 ⌝ }
+    requires { ⌜ x ≤ 17495 ⌝ }
     ensures { λ r. ⌜ r ≡ setsAt (now (grid .entry)) x ⌝ }
 {
     let first = wide(grid[x]);
@@ -108,7 +107,7 @@ pub fn enter(grid: &[u16; 17499], left: &[u16; 16385], slot: usize) -> u64
     sets::common(sets::on_cores(set), sets_at(grid, RATED_AT))
 }
 
-// Whether rule A bars idle on a core: a task in the core's set has equal positive rates.
+// Whether rule A bars idle on a core: a task of the core's set is in rule A's set.
 pub fn bars_idle(grid: &[u16; 17499], sets: u64, core: usize) -> bool
     requires { ⌜ core < 4 ⌝ }
     ensures { λ r. ⌜ r ≡ barsIdle (now (grid .entry)) sets core ⌝ }
@@ -162,7 +161,7 @@ fn settled(grid: &[u16; 17499], left: &[u16; 16385], slot: usize, task: usize) -
     work.0 == 0
 }
 
-// The counter of the first job that has its highest-numbered slot here and work left.
+// The counter of the first job that is due: that has its highest-numbered slot here and work left. NONE_DUE if there is none.
 pub fn first_due(grid: &[u16; 17499], left: &[u16; 16385], slot: usize) -> usize
     requires { ⌜ OnGrid (now grid) slot ⌝ }
     ensures { λ r. ⌜ r ≡ firstDueOn (now (grid .entry)) (now (left .entry)) slot ⌝ }

@@ -14,11 +14,11 @@ use Rattle.grid.specs.Grid.{counterOn, coresOn, slotsOn, tasksOn, setsOn, barsI
 use Rattle.walk.specs.Machine.{End, Found, NoneFound, Stopped, State, state, unlessEnded, Onward, idleLast, placed, tryFrom, afterCell, walkOn}
 
 -- Stopped is not NoneFound
-stopped-apart : _≡_ {A = End} Stopped NoneFound → ⊥
+pub stopped-apart : _≡_ {A = End} Stopped NoneFound → ⊥
 stopped-apart z = let y : _≡_ {A = ℕ} 0 1 = cc in omega arith
 
 -- nor is Found
-found-apart : _≡_ {A = End} Found NoneFound → ⊥
+pub found-apart : _≡_ {A = End} Found NoneFound → ⊥
 found-apart z = let y : _≡_ {A = ℕ} 0 1 = cc in omega arith
 
 -- a counter given back what it was

@@ -29,7 +29,7 @@ use Rattle.sets.specs.Sets.{has, without}
 use Rattle.grid.specs.Grid.{counterOn, rateOn, coresOn, slotsOn, setsOn, barsIdle, floorOn, allSettledOn}
 use Rattle.walk.specs.Machine.{End, Found, NoneFound, Stopped, State, state, Onward, oneMore, idleLast, placed, tryFrom, afterCell, walkOn}
 use Rattle.grid.specs.GridFor.{Small, GridFor, Lefts}
-use Rattle.walk.proofs.GiveBackLaws.{given-back, GivesBack, after-gives, walk-gives}
+use Rattle.walk.proofs.GiveBackLaws.{found-apart, stopped-apart, given-back, GivesBack, after-gives, walk-gives}
 use Rattle.walk.proofs.TurnLaws.{ended-stays, skip, stop, tried, back}
 use Rattle.grid.proofs.GridForLaws.{Sets, sets-same, all-settled-is, settled-within, open-tells, lefts-idle, lefts-put, sets-idle, sets-put, sets-start}
 use Rattle.walk.proofs.ObeyLaws.{cost-one, goes-prefix, task-tried, idle-tried}
@@ -51,11 +51,11 @@ pub record Shows (b n c : ℕ) (t : List ℕ) (s : State) (a : Outcome) : Type 0
 pub shows-same : {b n c : ℕ} {t : List ℕ} {s s′ : State} {a a′ : Outcome} → s′ ≡ s → a′ ≡ a → Shows b n c t s a → Shows b n c t s′ a′
 shows-same {b} {n} {c} {t} es ea h = subst₂ (Shows b n c t) (sym es) (sym ea) h
 
--- an end is Nothing, or not
+-- an end is NoneFound, or not
 end-cases : {X : Type 0} (e : End) → (e ≡ NoneFound → X) → ((e ≡ NoneFound → ⊥) → X) → X
-end-cases Found f g = g (λ z. let y : _≡_ {A = ℕ} 0 1 = cc in omega arith)
+end-cases Found f g = g found-apart
 end-cases NoneFound f g = f refl
-end-cases Stopped f g = g (λ z. let y : _≡_ {A = ℕ} 0 1 = cc in omega arith)
+end-cases Stopped f g = g stopped-apart
 
 -- the first of two tests that pass
 and-left : (a b : Bool) → a && b ≡ true → a ≡ true

@@ -8,7 +8,7 @@ use lib.Dec.{leb, eqb}
 use Rattle.laws.proofs.SumLaws.{lt-or-ge}
 use mathlib.Core.Path.{_≡_, refl, sym, ap, subst, _∙_}
 use mathlib.Core.Logic.{_≢_, inl, inr}
-use mathlib.Core.Bool.{Bool, true, false, not, _&&_}
+use mathlib.Core.Bool.{Bool, true, false, not, _&&_, true≢false, and-false}
 use mathlib.Core.List.{List}
 use borrow.Author.Tests.{lt-ltb, le-ltb, eq-eqb, ne-eqb}
 use lib.ListN.{set}
@@ -39,10 +39,6 @@ module _ (grid : List ℕ) (place : ℕ) {m : ℕ} (e : m ≡ coresOn grid) wher
   -- a cell of the slot is in the table
   pub cell-in : OnGrid grid (place / 4) → place % 4 < coresOn grid → place / 4 * m + place % 4 < 4096
   cell-in fits l = omega (arith, first-at, in-table place fits l)
-
--- a test does not pass and fail
-apart : _≡_ {A = Bool} true false → ⊥
-apart e = let y : _≡_ {A = ℕ} 0 1 = cc in omega arith
 
 -- a walk that has ended stays as it is
 pub ended-stays : (e : End) (r : State) (k : State → State) → (e ≡ NoneFound → ⊥) → unlessEnded e r k ≡ r
@@ -199,7 +195,7 @@ module _ {grid : List ℕ} {place sets first : ℕ} {t₀ l₀ : List ℕ} {trie
       -- it is none of those before
       not-before : turn .next ≤ task
       not-before = elim (lt-or-ge task (turn .next)) [
-        | inl h ↦ absurd (apart (sym (there .1) ∙ turn .none-before task h))
+        | inl h ↦ absurd (true≢false (sym (there .1) ∙ turn .none-before task h))
         | inr h ↦ h
       ]
 
@@ -211,7 +207,7 @@ module _ {grid : List ℕ} {place sets first : ℕ} {t₀ l₀ : List ℕ} {trie
       pub task-in : task < tasksOn grid
       task-in = elim (lt-or-ge task (tasksOn grid)) [
         | inl h ↦ h
-        | inr h ↦ absurd (apart (sym goes ∙ ap (λ b. b && leb floor (task + 1)) (turn .stands .within task (place % 4) h (omega (arith, turn .stands .core-in, turn .stands .fits .cores)))))
+        | inr h ↦ absurd (true≢false (sym goes ∙ ap (λ b. b && leb floor (task + 1)) (turn .stands .within task (place % 4) h (omega (arith, turn .stands .core-in, turn .stands .fits .cores)))))
       ]
 
       pub task-few : task < 16
@@ -243,7 +239,7 @@ module _ {grid : List ℕ} {place sets first : ℕ} {t₀ l₀ : List ℕ} {trie
         rises = elim (ℕ-discrete rest′ 0) [
           | yes z ↦ omega (arith, sym et, there .0, ap lowest z, trailing-of-zero 64)
           | no x ↦ elim (lt-or-ge (lowest rest′) (task + 1)) [
-            | inl h ↦ absurd (apart (sym (lowest-in rest′ x (rw er (without-lt rest task (turn .few))) (rw er (without-alone rest task (there .0) (turn .alone))) .1) ∙ gone (lowest rest′) h))
+            | inl h ↦ absurd (true≢false (sym (lowest-in rest′ x (rw er (without-lt rest task (turn .few))) (rw er (without-alone rest task (there .0) (turn .alone))) .1) ∙ gone (lowest rest′) h))
             | inr h ↦ omega (arith, sym et, there .0)
           ]
         ]
@@ -384,10 +380,6 @@ module _ {grid : List ℕ} {place sets : ℕ} (stands : Stands grid place sets) 
     core-in = stands .core-in;
     within = λ v c n l. ap (λ s. has s v c) es ∙ without-has sets task v c lt l ∙ ap (λ b. not (eqb v task) && b) (stands .within v c n l) ∙ and-false (not (eqb v task));
   }
-    where
-      and-false : (b : Bool) → b && false ≡ false
-      and-false true = refl
-      and-false false = refl
 
   -- at the next core
   pub stands-core : place % 4 + 1 < coresOn grid → Stands grid (place + 1) sets

@@ -65,7 +65,7 @@ fn take_back(left: &mut [u16; 16385], counter: usize, had: Work)
 }
 
 // Tries each value in the cell of a place, in order: the tasks that may stand there, and then idle. On the slot's last core a
-// value that leaves a job starved comes to nothing: it is counted without a call.
+// value that is not of the first job due leaves that one starved: it is counted without a call.
 fn cell(
     table: &mut [u8; 4096],
     grid: &[u16; 17499],
