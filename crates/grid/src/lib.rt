@@ -13,7 +13,8 @@
 //                          count if there is none
 //      17499
 //
-// A set is one number of crate `sets`, four tasks a place. Rule A's set is empty and rule B's marks are 0 for the plain engine. Tasks and cores count from 0 here.
+// A set is one number of crate `sets`, four tasks a place. For the plain engine rule A's set is empty and rule B's marks are 0.
+// Tasks and cores count from 0 here.
 // Beside the grid stands `left`, the work left of each job at its counter, job * 16 + task; its last place, 16384, is the
 // counter of a task in a slot where it is closed, and is always 0.
 ghost use mathlib.Core.Path.{_≡_};
