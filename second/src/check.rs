@@ -40,7 +40,7 @@ fn cell_fault(problem: &Problem, table: &[u8], h: usize) -> Option<Fault> {
         for (core, &cell) in cells.iter().enumerate().filter(|(_, &cell)| cell > 0) {
             let kind = match problem.tasks.get(cell as usize - 1) {
                 None => Kind::UnknownTask,
-                Some(task) if !task.open(slot, h) => Kind::Closed,
+                Some(task) if task.open(slot, h).is_none() => Kind::Closed,
                 Some(task) if task.rates[core] == 0 => Kind::RateZero,
                 Some(_) if cells[..core].contains(&cell) => Kind::Twice,
                 Some(_) => continue,
@@ -63,7 +63,8 @@ fn job_fault(problem: &Problem, table: &[u8], h: usize) -> Option<Fault> {
         let mut jobs = vec![(0, 0); h / task.period as usize];
         for (slot, cells) in table.chunks(problem.cores()).enumerate() {
             if let Some(core) = cells.iter().position(|&cell| cell as usize == number) {
-                let (done, last) = &mut jobs[task.job(slot, h)];
+                let open = task.open(slot, h).expect("a cell without a fault");
+                let (done, last) = &mut jobs[open.job];
                 *last = u16::from(task.rates[core]);
                 *done += *last;
             }

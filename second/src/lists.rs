@@ -138,8 +138,10 @@ pub fn from_table(random: &mut Random, most_rate: usize) -> Problem {
             rates,
         };
         let mut windows = vec![Vec::new(); jobs];
-        for slot in (0..slots).filter(|&slot| free[slot][core] && task.open(slot, slots)) {
-            windows[task.job(slot, slots)].push(slot);
+        for slot in (0..slots).filter(|&slot| free[slot][core]) {
+            if let Some(open) = task.open(slot, slots) {
+                windows[open.job].push(slot);
+            }
         }
         let share = (2 * period * cores / count).max(1);
         let room = windows.iter().map(Vec::len).fold(share, usize::min);
@@ -367,7 +369,7 @@ fn fill_a_cell(random: &mut Random, problem: &Problem, h: usize, table: &mut [u8
 fn without_fault(problem: &Problem, h: usize, table: &[u8], at: usize, number: u8) -> bool {
     let (slot, core) = (at / problem.cores(), at % problem.cores());
     let task = &problem.tasks[number as usize - 1];
-    task.open(slot, h)
+    task.open(slot, h).is_some()
         && task.rates[core] > 0
         && !table[slot * problem.cores()..][..problem.cores()].contains(&number)
 }

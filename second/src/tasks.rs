@@ -21,20 +21,36 @@ pub struct Task {
     pub rates: [u8; MOST_CORES],
 }
 
+/// The number, from 0, of the job that a task is open for, and how many of the job's slots have a
+/// higher number in the table.
+#[derive(Clone, Copy, Debug, PartialEq, Eq)]
+pub struct Open {
+    pub job: usize,
+    pub to_come: usize,
+}
+
 impl Task {
     /// The place p of a slot: how far it lies behind the offset, round a table of `h` slots.
     fn place(&self, slot: usize, h: usize) -> usize {
         (slot + h - self.offset as usize % h) % h
     }
 
-    /// The number, from 0, of the job that a slot belongs to.
-    pub fn job(&self, slot: usize, h: usize) -> usize {
-        self.place(slot, h) / self.period as usize
-    }
-
-    /// Whether the slot lies in its job's window.
-    pub fn open(&self, slot: usize, h: usize) -> bool {
-        self.place(slot, h) % (self.period as usize) < self.deadline as usize
+    /// What the task is open for in a slot, or `None` where it is closed.
+    pub fn open(&self, slot: usize, h: usize) -> Option<Open> {
+        let (period, deadline) = (self.period as usize, self.deadline as usize);
+        let place = self.place(slot, h);
+        (place % period < deadline).then(|| {
+            let job = place / period;
+            let first = (self.offset as usize + job * period) % h;
+            let end = first + deadline;
+            // Above the slot: what the window has before the table's end, and what it has behind it.
+            let before = end.min(h).saturating_sub(first.max(slot + 1));
+            let behind = end.saturating_sub(h + slot + 1);
+            Open {
+                job,
+                to_come: before + behind,
+            }
+        })
     }
 
     /// Refusals 3 to 7, on a board of `cores` cores.
@@ -219,11 +235,36 @@ mod tests {
             ..TASK
         };
         // 1023 is 3 past a multiple of 12.
-        let jobs = [2, 2, 2, 0, 0, 0, 0, 1, 1, 1, 1, 2];
-        let closed = [2, 6, 10];
-        for (slot, job) in jobs.into_iter().enumerate() {
-            assert_eq!(task.job(slot, 12), job);
-            assert_eq!(task.open(slot, 12), !closed.contains(&slot));
+        let open = |job, to_come| Some(Open { job, to_come });
+        #[rustfmt::skip]
+        let told = [
+            open(2, 2), open(2, 1), None,
+            open(0, 2), open(0, 1), open(0, 0), None,
+            open(1, 2), open(1, 1), open(1, 0), None,
+            open(2, 0),
+        ];
+        for (slot, told) in told.into_iter().enumerate() {
+            assert_eq!(task.open(slot, 12), told);
+        }
+    }
+
+    #[test]
+    fn to_come_is_the_number_of_higher_slots() {
+        for (period, jobs) in [(1, 3), (2, 1), (3, 1), (3, 2), (4, 3), (5, 2)] {
+            let h = period as usize * jobs;
+            for (deadline, offset) in (1..=period).flat_map(|d| (0..20).map(move |o| (d, o))) {
+                let task = Task {
+                    offset,
+                    deadline,
+                    period,
+                    ..TASK
+                };
+                let job = |slot| task.open(slot, h).map(|open| open.job);
+                for slot in (0..h).filter(|&slot| job(slot).is_some()) {
+                    let higher = (slot + 1..h).filter(|&other| job(other) == job(slot));
+                    assert_eq!(task.open(slot, h).unwrap().to_come, higher.count());
+                }
+            }
         }
     }
 }

@@ -4,7 +4,7 @@
 //! is worked out once per slot for all its cells: a task put into one of them changes nothing for
 //! the other tasks, and may not stand in the slot again.
 
-use crate::tasks::{Problem, Task, MOST_CORES, MOST_TASKS};
+use crate::tasks::{Open, Problem, Task, MOST_CORES, MOST_TASKS};
 use crate::verdict::{Ending, Refusal};
 use std::ops::Range;
 
@@ -229,12 +229,12 @@ impl Walk {
 }
 
 /// The slots, and by job counter the work. Slots are filled from the last to the first, so a job is
-/// first met in its highest-numbered slot, and the jobs that end in one slot are counted in a row.
+/// first met where nothing of it is to come, and the jobs that end in one slot are counted in a row.
 fn slots(tasks: &[Task], h: usize) -> (Vec<Slot>, Vec<u16>) {
     let mut work = vec![0];
-    let mut counters: Vec<Vec<Option<u16>>> = tasks
+    let mut counters: Vec<Vec<u16>> = tasks
         .iter()
-        .map(|task| vec![None; h / task.period as usize])
+        .map(|task| vec![0; h / task.period as usize])
         .collect();
     let mut slots: Vec<Slot> = (0..h)
         .rev()
@@ -242,16 +242,16 @@ fn slots(tasks: &[Task], h: usize) -> (Vec<Slot>, Vec<u16>) {
             let start = work.len() as u16;
             let mut open = 0;
             let mut counter = [0; VALUES];
-            for (i, task) in tasks
-                .iter()
-                .enumerate()
-                .filter(|(_, task)| task.open(slot, h))
-            {
+            for (i, task) in tasks.iter().enumerate() {
+                let Some(Open { job, to_come }) = task.open(slot, h) else {
+                    continue;
+                };
                 open |= 1 << i;
-                counter[i] = *counters[i][task.job(slot, h)].get_or_insert_with(|| {
+                if to_come == 0 {
+                    counters[i][job] = work.len() as u16;
                     work.push(task.work);
-                    work.len() as u16 - 1
-                });
+                }
+                counter[i] = counters[i][job];
             }
             Slot {
                 open,

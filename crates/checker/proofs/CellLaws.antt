@@ -18,6 +18,9 @@ use Rattle.tasks.specs.Task.{workIn, rate, task, taskAt, rows}
 use Rattle.tasks.specs.Window.{isOpen, jobAt}
 use Rattle.tasks.specs.Instance.{Instance, instanceOf, Regular}
 use Rattle.tasks.proofs.SoundLaws.{rows-length, rows-task, InRange, SoundList, sound-list, length-whole, instance-regular}
+use Rattle.windows.specs.declared.InSlot.{InSlot}
+use Rattle.windows.specs.Answer.{Fit, inSlot}
+use Rattle.windows.proofs.AnswerLaws.{sound-fit, told-opens, told-job}
 use Rattle.table.specs.Table.{slotOf, coreOf, free}
 use Rattle.table.specs.Fault.{knownKind, cellKind}
 use Rattle.faults.specs.Tests.{freeIn, counterAt}
@@ -135,11 +138,7 @@ module _ {list : TaskList} {m h : ℕ} {t : List ℕ} {slot core : ℕ} (at : At
       in-range : InRange m τ
       in-range = task-there (at .ready) (nth t c) x l e
 
-      -- what its window is asked with
-      pub window-ready : (0 < h) × (h ≤ 1024) × (slot < h) × (0 < τ .period .0)
-      window-ready = (some-slot (at .ready), few-slots (at .ready), at .slot-in, in-range .period-pos)
-
-      -- and its rate
+      -- its rate is small
       pub rate-few : rate τ core ≤ 15
       rate-few = in-range .rate-le core (omega (arith, few-cores (at .ready), at .core-in))
 
@@ -150,6 +149,10 @@ module _ {list : TaskList} {m h : ℕ} {t : List ℕ} {slot core : ℕ} (at : At
           go : (v : ℕ) → v ≢ 0 → v ≤ list .n → taskAt list (v - 1) ≡ task (rows list) v
           go zero x l = absurd (x refl)
           go (suc k) x l = ap (taskAt list) (omega arith) ∙ sym (rows-task list k l)
+
+      -- what its window is asked with
+      pub window-ready : Fit h τ × (slot < h)
+      window-ready = (rw (task-is, at .ready .slots) (sound-fit (listed (at .ready)) (nth t c) x (rw rows-length l)), at .slot-in)
 
       -- whether it is open
       opens-is : isOpen h (τ .offset .0) (τ .deadline .0) (τ .period .0) slot ≡ P .opens (nth t c) (slotOf P c)
@@ -171,14 +174,14 @@ module _ {list : TaskList} {m h : ℕ} {t : List ℕ} {slot core : ℕ} (at : At
       unfolding instanceOf
       work-is = ap (λ σ. σ .work) task-is
 
-      module _ {o b : Bool} {k : ℕ} (eo : o ≡ isOpen h (τ .offset .0) (τ .deadline .0) (τ .period .0) slot) (eb : b ≡ freeIn t (slot * m) core (nth t c))
-          (ek : k ≡ knownKind o (ltb 0 (rate τ core)) b) where
+      module _ {r : InSlot} {b : Bool} {k : ℕ} (er : r ≡ inSlot h τ slot) (eb : b ≡ freeIn t (slot * m) core (nth t c))
+          (ek : k ≡ knownKind (r .opens) (ltb 0 (rate τ core)) b) where
         -- its tests are those of the cell
         kind-is : k ≡ cellKind P (nth t) c
         unfolding instanceOf
         kind-is =
             ek
-            ∙ (λ i. knownKind ((eo ∙ opens-is) i) (ltb 0 (rate-is i)) ((eb ∙ free-of (nth t c)) i))
+            ∙ (λ i. knownKind ((told-opens h slot τ r er ∙ opens-is) i) (ltb 0 (rate-is i)) ((eb ∙ free-of (nth t c)) i))
             ∙ sym (kind-known P (nth t) c x (rw rows-length l))
 
         -- one of them fails
@@ -186,11 +189,10 @@ module _ {list : TaskList} {m h : ℕ} {t : List ℕ} {slot core : ℕ} (at : At
         faulty-there = effect-faulty P (nth t) c x kind-is
 
         -- none does, and the task does its work
-        pub does-there : k ≡ 0 → {job : ℕ} → job ≡ jobAt h (τ .offset .0) (τ .period .0) slot
-            → {place : ℕ} → place ≡ counterAt (nth t c - 1) job → {does : Work} → does ≡ workIn (rate τ core) (record { 0 = 1 })
+        pub does-there : k ≡ 0 → {place : ℕ} → place ≡ counterAt (nth t c - 1) (r .job) → {does : Work} → does ≡ workIn (rate τ core) (record { 0 = 1 })
             → Does place (τ .work) does ≡ effectOf P (nth t) c
-        does-there z ej ep ew =
-            (λ i. Does ((ep ∙ (λ i. counterAt (pred-is (nth t c) i) ((ej ∙ job-is) i))) i) (work-is i) ((ew ∙ units) i)) ∙ effect-does P (nth t) c x kind-is z
+        does-there z ep ew =
+            (λ i. Does ((ep ∙ (λ i. counterAt (pred-is (nth t c) i) ((told-job h slot τ r er ∙ job-is) i))) i) (work-is i) ((ew ∙ units) i)) ∙ effect-does P (nth t) c x kind-is z
           where
             pred-is : (v : ℕ) → v - 1 ≡ pred v
             pred-is zero = omega arith

@@ -46,15 +46,18 @@ fn cell_effect(list: TaskList, len: Slots, m: u8, table: &[u8], slot: u16, core:
     let task = tasks::task_at(list, place as usize);
     let rates = task.rates.0;
     let rate = rates[core as usize] as u16;
-    let opens = windows::is_open(len, task, Slots(slot));
-    let fault = faults::kind(opens, 0 < rate, faults::free(table, first, core, value));
+    let here = windows::open_in(len, task, Slots(slot));
+    let fault = faults::kind(
+        here.opens,
+        0 < rate,
+        faults::free(table, first, core, value),
+    );
     if fault != 0 {
         return Effect::Faulty(fault);
     }
-    let job = windows::job_at(len, task, Slots(slot));
     let work = task.work;
     Effect::Does(
-        faults::counter_of(place, job),
+        faults::counter_of(place, here.job),
         work,
         tasks::work_in(rate, Slots(1)),
     )

@@ -18,14 +18,12 @@ use Rattle.laws.proofs.ListLaws.{seek-is, seek-none, seek-same, filled-before, 
 use Rattle.tasks.specs.declared.Task.{Task}
 use Rattle.tasks.specs.declared.TaskList.{TaskList}
 use Rattle.tasks.specs.Task.{taskAt}
-use Rattle.tasks.specs.Window.{lastSlot}
-use Rattle.windows.specs.declared.Window.{Window}
-use Rattle.windows.specs.declared.Window.the-variants.{Open, Closed}
-use Rattle.windows.specs.Answer.{inSlotAs, inSlot}
+use Rattle.windows.specs.declared.InSlot.{InSlot}
+use Rattle.windows.specs.Answer.{Fit, inSlot}
 use Rattle.tasks.proofs.WindowLaws.{pos-T, job-lt}
-use Rattle.windows.proofs.AnswerLaws.{told-open, told-closed}
+use Rattle.windows.proofs.AnswerLaws.{told-opens, told-job, told-last}
 use Rattle.grid.specs.GridFor.{isQuick}
-use Rattle.fill.specs.Grid.{Fit, entryFor, entryAt, evenPair, rowEven, coresTwin, quickMark, ratedMark, taskBits, fourTasks, setMarks, twinMarks, taskCount, coreCount, marks, sizeAt, markAt, endMark, unmarkedOf, gridOf}
+use Rattle.fill.specs.Grid.{entryFor, entryAt, evenPair, rowEven, coresTwin, quickMark, ratedMark, taskBits, fourTasks, setMarks, twinMarks, taskCount, coreCount, marks, sizeAt, markAt, endMark, unmarkedOf, gridOf}
 
 -- ---- places stored one after the other
 module _ (s : List ℕ) (g : ℕ → ℕ) where
@@ -47,34 +45,34 @@ module _ (n : ℕ) (f : ℕ → Bool) where
   pub none-fails : (i : ℕ) → n ≤ i → ((k : ℕ) → k < i → f k ≡ true) → true ≡ all n f
   none-fails i l h = sym (all-true n f (λ k m. h k (omega arith)))
 
--- ---- the entry of a task in slot t of L, from the window w that is told
-module _ (L t : ℕ) (τ : Task) where
-  -- the job that is told is one of the table's
-  pub told-job : (k : ℕ) (w : Window) → Fit L τ → inSlotAs w ≡ inSlot L τ t → w ≡ Open k → (k < L / τ .period .0) × (k < 1024)
-  told-job k w fit e f =
-      let l : k < L / τ .period .0 = omega (arith, told-open L t τ w e k f .1, job-lt (fit .cyclic) (τ .offset .0) t) in
-      (l, omega (arith, fit .few-slots, fit .cyclic .cycle, mul-le-mul-left (L / τ .period .0) (pos-T (fit .cyclic))))
+-- ---- the entry of a task in slot t of L, from what is told of it, r
+module _ (L t : ℕ) (τ : Task) (r : InSlot) (e : r ≡ inSlot L τ t) where
+  -- its job is one of the table's
+  pub few-jobs : Fit L τ → r .job < 1024
+  few-jobs fit = omega (
+    arith,
+    told-job L t τ r e,
+    job-lt (fit .cyclic) (τ .offset .0) t,
+    fit .few-slots,
+    fit .cyclic .cycle,
+    mul-le-mul-left (L / τ .period .0) (pos-T (fit .cyclic)),
+  )
 
-  -- its highest-numbered slot
-  pub entry-end : (v k last : ℕ) (w : Window) → inSlotAs w ≡ inSlot L τ t → w ≡ Open k → last ≡ lastSlot L (τ .offset .0) (τ .deadline .0) (τ .period .0) k → last ≡ t
-      → 2 * (k * 16 + v) + 1 ≡ entryFor L τ (suc v) t
+  -- open, and nothing is to come: the job's highest-numbered slot
+  pub entry-end : (v : ℕ) → t < L → r .opens ≡ true → r .coming .0 ≡ 0 → 2 * (r .job * 16 + v) + 1 ≡ entryFor L τ (suc v) t
   unfolding entryFor gate
-  entry-end v k last w e f el here =
-      let told = told-open L t τ w e k f in
-      rw (told .0, ← told .1, ← el, eq-eqb last t here)
+  entry-end v l o here = rw (sym (told-opens L t τ r e) ∙ o, ← told-job L t τ r e, eq-eqb _ t (told-last L t τ r e l o .1 here))
 
-  -- an earlier one
-  pub entry-early : (v k last : ℕ) (w : Window) → inSlotAs w ≡ inSlot L τ t → w ≡ Open k → last ≡ lastSlot L (τ .offset .0) (τ .deadline .0) (τ .period .0) k → last ≢ t
-      → 2 * (k * 16 + v) ≡ entryFor L τ (suc v) t
+  -- something is: an earlier one
+  pub entry-early : (v : ℕ) → t < L → r .opens ≡ true → r .coming .0 ≢ 0 → 2 * (r .job * 16 + v) ≡ entryFor L τ (suc v) t
   unfolding entryFor gate
-  entry-early v k last w e f el other =
-      let told = told-open L t τ w e k f in
-      rw (told .0, ← told .1, ← el, ne-eqb last t other) (omega arith)
+  entry-early v l o other =
+      rw (sym (told-opens L t τ r e) ∙ o, ← told-job L t τ r e, ne-eqb _ t (λ z. other (told-last L t τ r e l o .0 z))) (omega arith)
 
-  -- no job's
-  pub entry-closed : (v : ℕ) (w : Window) → inSlotAs w ≡ inSlot L τ t → w ≡ Closed → 32768 ≡ entryFor L τ (suc v) t
+  -- closed: no job's
+  pub entry-closed : (v : ℕ) → r .opens ≡ false → 32768 ≡ entryFor L τ (suc v) t
   unfolding entryFor
-  entry-closed v w e f = rw (told-closed L t τ w e f)
+  entry-closed v o = rw (sym (told-opens L t τ r e) ∙ o)
 
 -- ---- the entries
 -- a task that was read

@@ -4,7 +4,7 @@ use Prim.Native.Nat.{ℕ, zero, suc, _+_, _*_, _-_, _/_, _%_, _≤_, _<_}
 use native.Mathlib.Omega.{arith}
 use native.Mathlib.Nat.{div-le-self, zero-add}
 use mathlib.Core.Path.{_≡_, refl, sym, ap, ap₂, subst, _∙_}
-use mathlib.Core.Logic.{_≢_, _⊎_, inl, inr, ⊎-elim}
+use mathlib.Core.Logic.{_⊎_, inl, inr, ⊎-elim}
 use mathlib.Core.Bool.{_&&_}
 use mathlib.Core.List.{List}
 use lib.Dec.{T, eqb, ltb}
@@ -25,13 +25,15 @@ use Rattle.tasks.specs.Window.{isJobs}
 use Rattle.tasks.specs.Instance.{jobSlot, instanceOf, ownInstance}
 use Rattle.tasks.proofs.SoundLaws.{rows-length, rows-task, SoundList, sound-list, length-whole, sound-cyclic, instance-regular}
 use Rattle.tasks.proofs.WindowLaws.{job-slot, highest-passes}
+use Rattle.windows.specs.Answer.{Fit}
+use Rattle.windows.proofs.AnswerLaws.{sound-fit}
 use Rattle.rules.specs.Rules.{evenRates, twin}
 use Rattle.sets.specs.Sets.{has}
 use Rattle.grid.specs.Grid.{coresOn, setsAt, OnGrid}
 use Rattle.grid.specs.GridFor.{Small, entryOf, isQuick, GridFor}
 use Rattle.grid.proofs.GridForLaws.{test-same, counter-le}
 use Rattle.grid.proofs.ReadLaws.{sets-at}
-use Rattle.fill.specs.Grid.{Fit, entryFor, entryAt, evenPair, pairEven, rowEven, coresTwin, quickMark, taskBits, fourTasks, setMarks, twinMarks, taskCount, coreCount, slotCount, marks, markAt, endMark, unmarkedOf, gridOf}
+use Rattle.fill.specs.Grid.{entryFor, entryAt, evenPair, pairEven, rowEven, coresTwin, quickMark, taskBits, fourTasks, setMarks, twinMarks, taskCount, coreCount, slotCount, marks, markAt, endMark, unmarkedOf, gridOf}
 use Rattle.fill.proofs.FillLaws.{size-tasks, size-cores, size-slots, at-rate, at-set, at-twin, at-size}
 use Rattle.fill.proofs.BitLaws.{bits-even-has, bits-rated-has, four-lt, four-has}
 
@@ -41,14 +43,7 @@ pub sound-fits : (list : TaskList) (m L : ℕ) → IsSound m (rows list) → L �
     → (list .n ≤ 16) × (L ≤ 1024) × ((k : ℕ) → k < list .n → Fit L (taskAt list k))
 sound-fits list m L s e =
     let sound = sound-list m (rows list) s in
-    (omega (arith, rows-length list), omega arith, λ k l. rw (← rows-task list k l, e) (task-fits sound (suc k) (omega arith) (omega (arith, rows-length list))))
-  where
-    task-fits : SoundList m (rows list) → (i : ℕ) → i ≢ 0 → i ≤ length (rows list) → Fit (tableLength (rows list)) (task (rows list) i)
-    task-fits sound i x l = record {
-      few-slots = sound .few-slots;
-      offset-le = sound .in-range i x l .offset-le;
-      cyclic = sound-cyclic sound (length-whole sound) i x l;
-    }
+    (omega (arith, rows-length list), omega arith, λ k l. rw (← rows-task list k l, e) (sound-fit sound (suc k) (omega arith) (omega (arith, rows-length list))))
 
 module _ {m : ℕ} (list : TaskList) (s : SoundList m (rows list)) where
   -- its instance fits the arrays, and each of its jobs has a slot

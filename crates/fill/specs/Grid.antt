@@ -1,6 +1,6 @@
 -- What stands on the grid of a list.
 -- Assumes nothing.
-use Prim.Native.Nat.{ℕ, suc, _+_, _*_, _-_, _/_, _%_, _≤_}
+use Prim.Native.Nat.{ℕ, suc, _+_, _*_, _-_, _/_, _%_}
 use mathlib.Core.Bool.{Bool, cond, _&&_}
 use mathlib.Core.List.{List}
 use lib.Dec.{ltb, eqb}
@@ -10,15 +10,9 @@ use Rattle.laws.specs.Lists.{nth, seek, filled}
 use Rattle.tasks.specs.declared.Task.{Task}
 use Rattle.tasks.specs.declared.TaskList.{TaskList}
 use Rattle.tasks.specs.Task.{taskAt}
-use Rattle.tasks.specs.Window.{isOpen, jobAt, lastSlot, Cyclic}
+use Rattle.tasks.specs.Window.{isOpen, jobAt, lastSlot}
 use Rattle.sets.specs.Sets.{pushed}
 use Rattle.grid.specs.GridFor.{counterOf, closedCounter, isQuick}
-
--- a task whose windows fit a table of L slots
-pub record Fit (L : ℕ) (τ : Task) : Type 0 where
-  pub few-slots : L ≤ 1024
-  pub offset-le : τ .offset .0 ≤ 1023
-  pub cyclic : Cyclic L (τ .deadline .0) (τ .period .0) (L / τ .period .0)
 
 -- the entry of a task, of number i, in slot t
 unfoldable pub entryFor : ℕ → Task → ℕ → ℕ → ℕ

@@ -3,7 +3,8 @@ ghost use mathlib.Core.Path.{_≡_};
 ghost use Prim.Native.Nat.{ℕ, suc, _*_, _≤_, _<_, _/_, _%_};
 ghost use Rattle.laws.specs.Lists.{filled};
 ghost use Rattle.tasks.specs.Task.{taskAt};
-ghost use Rattle.fill.specs.Grid.{Fit, entryFor, entryAt, evenPair, pairEven, rowEven, coresTwin, quickMark, ratedBit, ratedMark, taskBits, fourTasks, sizeAt, markAt, endMark, gridOf};
+ghost use Rattle.windows.specs.Answer.{Fit};
+ghost use Rattle.fill.specs.Grid.{entryFor, entryAt, evenPair, pairEven, rowEven, coresTwin, quickMark, ratedBit, ratedMark, taskBits, fourTasks, sizeAt, markAt, endMark, gridOf};
 use grid::CORES_AT;
 use grid::ENDS_AT;
 use grid::EVEN_AT;
@@ -14,7 +15,6 @@ use grid::TWINS_AT;
 use tasks::Slots;
 use tasks::Task;
 use tasks::TaskList;
-use windows::Window;
 
 // Twice the counter of a task in a slot where it is closed.
 const CLOSED: u16 = 32768;
@@ -39,18 +39,16 @@ fn entry(len: Slots, t: Task, v: u16, slot: Slots) -> u16
     requires { ⌜ Fit (len .0) t × (v < 16) × (slot .0 < len .0) ⌝ }
     ensures { λ r. ⌜ r ≡ entryFor (len .0) t (suc v) (slot .0) ⌝ }
 {
-    let window = windows::open_in(len, t, slot);
-    match window {
-        Window::Open(job) => {
-            let last = windows::last_slot(len, t, job);
-            let counter = job * 16 + v;
-            if last.0 == slot.0 {
-                2 * counter + 1
-            } else {
-                2 * counter
-            }
+    let here = windows::open_in(len, t, slot);
+    if here.opens {
+        let counter = here.job * 16 + v;
+        if here.coming.0 == 0 {
+            2 * counter + 1
+        } else {
+            2 * counter
         }
-        Window::Closed => CLOSED,
+    } else {
+        CLOSED
     }
 }
 

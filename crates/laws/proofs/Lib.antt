@@ -1,4 +1,5 @@
 pub mod SumLaws
+pub mod CountLaws
 pub mod TestLaws
 pub mod ListLaws
 pub mod LcmLaws

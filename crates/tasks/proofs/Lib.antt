@@ -1,4 +1,5 @@
 pub mod WindowLaws
+pub mod ComingLaws
 pub mod SoundLaws
 pub mod AnswerLaws
 pub mod NumberLaws

@@ -11,7 +11,7 @@ use lib.Dec.{T as Passes, ltb, eqb, lt→ltb, ltb→lt, eqb→eq, eqb-refl}
 use lib.Arith.{digits-div, digits-mod, mod-mul}
 use Rattle.laws.specs.Sum.{gate, sum}
 use Rattle.laws.proofs.SumLaws.{gate-eq, gate-ne, gate-zero, sum-ext, sum-zero, sum-shift, sum-cells, sum-only, sum-below}
-use Rattle.tasks.specs.Window.{place, jobAt, IsOpen, isOpen, isJobs, highest, lastSlot, during, doneIn, InWindow, Cyclic}
+use Rattle.tasks.specs.Window.{place, jobAt, IsOpen, isOpen, isJobs, highest, during, doneIn, InWindow, Cyclic}
 
 -- ---- places
 -- a place is below the length
@@ -48,14 +48,6 @@ pos-L w = rw (w .cycle) (mul-pos (w .some-jobs) (pos-T w))
 pub D-le-L : {L D T q : ℕ} → Cyclic L D T q → D ≤ L
 D-le-L {T = T} w = omega (arith, mul-le-mul-right T (w .some-jobs))
 
--- a job's period lies in the table, counted from the offset
-pub period-fits : {L D T q : ℕ} → Cyclic L D T q → (k : ℕ) → k < q → k * T + T ≤ L
-period-fits {T = T} w k h = omega (arith, mul-le-mul-right T h, w .cycle)
-
--- a window that starts in the table ends before the table's second turn does
-pub end-fits : {L D T q : ℕ} → Cyclic L D T q → (O k : ℕ) → (O + k * T) % L + (D - 1) < L + L
-end-fits {T = T} w O k = omega (arith, mod-lt (O + k * T) (pos-L w), D-le-L w)
-
 -- ---- the slots of a job
 -- two tests in one: both pass
 pub both : (a b : Bool) → (Passes (a && b)) ↔ (Passes a × Passes b)
@@ -63,7 +55,7 @@ both true b = (λ t. (tt, t), λ h. h .1)
 both false b = (λ t. absurd t, λ h. h .0)
 
 -- and a term that they let through
-gate-both : (a b : Bool) (x : ℕ) → gate (a && b) x ≡ gate a (gate b x)
+pub gate-both : (a b : Bool) (x : ℕ) → gate (a && b) x ≡ gate a (gate b x)
 unfolding gate
 gate-both true b x = refl
 gate-both false b x = refl
@@ -212,34 +204,10 @@ module _ {L D T q : ℕ} (w : Cyclic L D T q) (O : ℕ) where
       let r : u < T = omega arith in
       is-jobs L O D T k _ .1 (omega (arith, after-mod (k * T + u), digits-mod k r), after-div (k * T + u) ∙ ap (λ x. x % q) (digits-div k r) ∙ mod-eq-of-lt h)
 
-  -- and each slot of a job is one of its window
-  pub slot-window : (k t : ℕ) → t < L → Passes (isJobs L O D T k t) → (u : ℕ) × (u < D) × (t ≡ (O + (k * T + u)) % L)
-  slot-window k t l p =
-      let o = is-jobs L O D T k t .0 p in
-      (place L O t % T, o .0, sym (place-back L O t l) ∙ ap (λ x. (O + x) % L) (omega (arith, div-add-mod' (place L O t) T, ap (λ x. x * T) (o .1))))
-
   -- every job has a slot
   pub job-slot : (k : ℕ) → k < q → (t : ℕ) × (t < L) × Passes (isJobs L O D T k t)
   job-slot k h = ((O + (k * T + 0)) % L, mod-lt _ (pos-L w), window-slot k 0 h (w .some-slots))
 
   -- a window's slot, from its first on
-  first-slot : (k u : ℕ) → (O + (k * T + u)) % L ≡ ((O + k * T) % L + u) % L
+  pub first-slot : (k u : ℕ) → (O + (k * T + u)) % L ≡ ((O + k * T) % L + u) % L
   first-slot k u = ap (λ x. x % L) (omega arith) ∙ sym (mod-add-mod (O + k * T) L u)
-
-  -- the highest slot of a job whose window does not run round the table's end is the window's last
-  pub last-straight : (k : ℕ) → k < q → (O + k * T) % L + (D - 1) ≤ L - 1 → (O + k * T) % L + (D - 1) ≡ lastSlot L O D T k
-  last-straight k h ends =
-      let fits : (O + k * T) % L + (D - 1) < L = omega (arith, pos-L w) in
-      sym (highest-is L (isJobs L O D T k) _ fits
-      (subst (λ x. Passes (isJobs L O D T k x)) (first-slot k (D - 1) ∙ mod-eq-of-lt fits) (window-slot k (D - 1) h (omega arith)))
-      (λ t a l p. let s = slot-window k t l p in
-      let e : ((O + k * T) % L + s .0) % L ≡ (O + k * T) % L + s .0 = mod-eq-of-lt (omega arith) in
-      omega (arith, first-slot k (s .0), s .2)))
-
-  -- and else it is the table's last
-  pub last-round : (k : ℕ) → k < q → L - 1 < (O + k * T) % L + (D - 1) → L - 1 ≡ lastSlot L O D T k
-  last-round k h over =
-      let first : (O + k * T) % L < L = mod-lt (O + k * T) (pos-L w) in
-      sym (highest-is L (isJobs L O D T k) (L - 1) (omega arith)
-      (subst (λ x. Passes (isJobs L O D T k x)) (first-slot k (L - 1 - (O + k * T) % L) ∙ mod-eq-of-lt (omega arith) ∙ omega arith) (window-slot k _ h (omega arith)))
-      (λ t a l p. omega arith))

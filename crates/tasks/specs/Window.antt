@@ -4,7 +4,7 @@ use Prim.Native.Nat.{ℕ, zero, suc, _+_, _*_, _-_, _/_, _%_, _≤_, _<_}
 use mathlib.Core.Path.{_≡_}
 use mathlib.Core.Bool.{Bool, cond, _&&_}
 use lib.Dec.{ltb, eqb}
-use Rattle.laws.specs.Sum.{gate, sum}
+use Rattle.laws.specs.Sum.{gate, sum, count}
 
 -- 2.2: p = (t - O) mod L, taken between 0 and L - 1
 unfoldable pub place : ℕ → ℕ → ℕ → ℕ
@@ -34,6 +34,10 @@ highest (suc n) g = cond (g n) n (highest n g)
 -- 2.6: job k's highest-numbered slot
 abbrev pub lastSlot : ℕ → ℕ → ℕ → ℕ → ℕ → ℕ
 lastSlot L O D T k = highest L (isJobs L O D T k)
+
+-- 2.7: how many of job k's slots are still to come at slot t: are the job's, and have a higher number
+abbrev pub toCome : ℕ → ℕ → ℕ → ℕ → ℕ → ℕ → ℕ
+toCome L O D T k t = count L (λ u. isJobs L O D T k u && ltb t u)
 
 -- 2.1: time s, from 0 on without end, lies in the K-th window
 abbrev pub InWindow : ℕ → ℕ → ℕ → ℕ → ℕ → Type 0

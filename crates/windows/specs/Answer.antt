@@ -1,25 +1,23 @@
 -- What is told of a task in a slot.
 -- Assumes nothing.
-use Prim.Native.Nat.{ℕ}
-use mathlib.Core.Bool.{Bool, true, false}
+use Prim.Native.Nat.{ℕ, _/_, _≤_}
 use Rattle.laws.specs.Sum.{gate}
 use Rattle.tasks.specs.declared.Task.{Task}
-use Rattle.tasks.specs.Window.{jobAt, isOpen}
-use Rattle.windows.specs.declared.Window.{Window}
-use Rattle.windows.specs.declared.Window.the-variants.{Open, Closed}
+use Rattle.tasks.specs.Window.{jobAt, isOpen, toCome, Cyclic}
+use Rattle.windows.specs.declared.InSlot.{InSlot}
 
--- whether the task is open, and the number of its job, 0 where it is closed
-pub record InSlot : Type 0 where
-  pub opens : Bool
-  pub job : ℕ
+-- a task whose windows fit a table of L slots
+pub record Fit (L : ℕ) (τ : Task) : Type 0 where
+  pub few-slots : L ≤ 1024
+  pub cyclic : Cyclic L (τ .deadline .0) (τ .period .0) (L / τ .period .0)
 
--- the answer by the rules' numbers
-unfoldable pub inSlotAs : Window → InSlot
-inSlotAs (Open job) = record { opens = true; job = job }
-inSlotAs Closed = record { opens = false; job = 0 }
-
--- 2.4: a task in slot t of L
+-- 2.3, 2.4, 2.7: a task in slot t of L: whether it is open, the number of its job, and how many of the job's slots are still to come, 0 where it is closed
 unfoldable pub inSlot : ℕ → Task → ℕ → InSlot
 inSlot L τ t =
     let here = isOpen L (τ .offset .0) (τ .deadline .0) (τ .period .0) t in
-    record { opens = here; job = gate here (jobAt L (τ .offset .0) (τ .period .0) t) }
+    let k = jobAt L (τ .offset .0) (τ .period .0) t in
+    record {
+      opens = here;
+      job = k;
+      coming = record { 0 = gate here (toCome L (τ .offset .0) (τ .deadline .0) (τ .period .0) k t) };
+    }

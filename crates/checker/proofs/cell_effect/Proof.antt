@@ -30,8 +30,8 @@ array-read-rate c = let s = c .before .before .before .before .before .before .b
 cast-rate : tie.Need-cast-rate
 cast-rate c = omega (arith, rate-few (c .before .before .before .before .before .before .before .pre) (c .before .before .before .before .if1 .left) (c .before .before .if2 .left) (c .before .task-at .ensures))
 
-is-open-requires : tie.Need-is-open-requires
-is-open-requires c κs = window-ready (c .before .before .before .before .before .before .before .pre) (c .before .before .before .before .if1 .left) (c .before .before .if2 .left) (c .before .task-at .ensures)
+open-in-requires : tie.Need-open-in-requires
+open-in-requires c κs = window-ready (c .before .before .before .before .before .before .before .pre) (c .before .before .before .before .if1 .left) (c .before .before .if2 .left) (c .before .task-at .ensures)
 
 free-requires : tie.Need-free-requires
 free-requires c κs = let s = c .before .before .before .before .before .before .before .before in omega (arith, cell-in (s .pre .ready) _ _ (s .pre .slot-in) (s .pre .core-in), s .pre .ready .long)
@@ -39,20 +39,17 @@ free-requires c κs = let s = c .before .before .before .before .before .before 
 returns-3 : tie.Need-returns-3
 returns-3 c =
     faulty-there (c .before .before .before .before .before .before .before .before .before .before .before .pre) (c .before .before .before .before .before .before .before .before .if1 .left) (c .before .before .before .before .before .before .if2 .left) (c .before .before .before .before .before .task-at .ensures)
-    (c .before .before .before .is-open .ensures) (c .before .before .free .ensures) (c .before .kind .ensures) (c .if3 .taken)
-
-job-at-requires : tie.Need-job-at-requires
-job-at-requires c κs = window-ready (c .before .before .before .before .before .before .before .before .before .before .before .pre) (c .before .before .before .before .before .before .before .before .if1 .left) (c .before .before .before .before .before .before .if2 .left) (c .before .before .before .before .before .task-at .ensures)
+    (c .before .before .before .open-in .ensures) (c .before .before .free .ensures) (c .before .kind .ensures) (c .if3 .taken)
 
 work-in-requires : tie.Need-work-in-requires
-work-in-requires c κs = omega (arith, rate-few (c .before .before .before .before .before .before .before .before .before .before .before .before .before .before .pre) (c .before .before .before .before .before .before .before .before .before .before .before .if1 .left) (c .before .before .before .before .before .before .before .before .before .if2 .left) (c .before .before .before .before .before .before .before .before .task-at .ensures))
+work-in-requires c κs = omega (arith, rate-few (c .before .before .before .before .before .before .before .before .before .before .before .before .before .pre) (c .before .before .before .before .before .before .before .before .before .before .if1 .left) (c .before .before .before .before .before .before .before .before .if2 .left) (c .before .before .before .before .before .before .before .task-at .ensures))
 
 returns-4 : tie.Need-returns-4
 returns-4 c =
-    does-there (c .before .before .before .before .before .before .before .before .before .before .before .before .before .before .before .pre) (c .before .before .before .before .before .before .before .before .before .before .before .before .if1 .left) (c .before .before .before .before .before .before .before .before .before .before .if2 .left) (c .before .before .before .before .before .before .before .before .before .task-at .ensures)
-    (c .before .before .before .before .before .before .before .is-open .ensures) (c .before .before .before .before .before .before .free .ensures) (c .before .before .before .before .before .kind .ensures) (c .before .before .before .before .if3 .left) (c .before .before .before .job-at .ensures) (c .before .counter-of .ensures) (c .work-in .ensures)
+    does-there (c .before .before .before .before .before .before .before .before .before .before .before .before .before .before .pre) (c .before .before .before .before .before .before .before .before .before .before .before .if1 .left) (c .before .before .before .before .before .before .before .before .before .if2 .left) (c .before .before .before .before .before .before .before .before .task-at .ensures)
+    (c .before .before .before .before .before .before .open-in .ensures) (c .before .before .before .before .before .free .ensures) (c .before .before .before .before .kind .ensures) (c .before .before .before .if3 .left) (c .before .counter-of .ensures) (c .work-in .ensures)
 
 pub cell-effect-spec : {M : Type 1} → statement M
 cell-effect-spec = tie.close (tie.spec
     mul-first add-value shared-slice-read-value returns returns-2 (λ c. search needs) (λ c. search needs) task-at-requires array-read-rate cast-rate
-    is-open-requires free-requires (λ c κs. search needs) returns-3 job-at-requires (λ c κs. search needs) work-in-requires returns-4)
+    open-in-requires free-requires (λ c κs. search needs) returns-3 (λ c κs. search needs) work-in-requires returns-4)

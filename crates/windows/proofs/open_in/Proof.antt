@@ -1,47 +1,24 @@
--- `windows::open_in` meets its contract: what a place has beyond its job's start is the place mod T.
+-- `windows::open_in` meets its contract: what a place has beyond its job's start is the place mod T, and the slots to come are the count's closed form.
 -- Assumes nothing.
-use Prim.Native.Nat.{ℕ, _*_, _-_, _/_, _≤_, _<_}
-use mathlib.Core.Path.{_≡_, sym, ap, _∙_}
-use lib.Dec.{ltb}
-use native.Mathlib.Nat.{lt-of-le-of-lt, div-mul-le-self, mod-eq-sub-div-mul}
-use borrow.Author.Tests.{lt-ltb, le-ltb}
+use native.Mathlib.Nat.{lt-of-le-of-lt, div-mul-le-self}
 use borrow.Author.Needs.{needs}
-use Rattle.tasks.specs.declared.Task.{Task}
-use Rattle.tasks.specs.Window.{place, isOpen}
-use Rattle.windows.specs.declared.Window.the-variants.{Open, Closed}
-use Rattle.windows.specs.Answer.{inSlotAs, inSlot}
-use Rattle.windows.proofs.AnswerLaws.{open-at, job-at, window-open, window-closed}
+use Rattle.windows.proofs.AnswerLaws.{past-deadline, before-deadline}
 use Rattle.windows.proofs.open_in.Statement.{statement}
 use Rattle.windows.proofs.open_in.Tie as tie
 
-module _ (L t : ℕ) (τ : Task) (p : ℕ) (placed : p ≡ place L (τ .offset .0) t) where
-  -- the place in the period, by the job's number
-  abbrev inPeriod : ℕ
-  inPeriod = p - p / τ .period .0 * τ .period .0
+mul-t10 : tie.Need-mul-t10
+mul-t10 c = record { fits = lt-of-le-of-lt (div-mul-le-self _ _) (search needs) }
 
-  -- the test on it is the definition's
-  test-in-period : ltb inPeriod (τ .deadline .0) ≡ isOpen L (τ .offset .0) (τ .deadline .0) (τ .period .0) t
-  test-in-period = ap (λ x. ltb x (τ .deadline .0)) (sym (mod-eq-sub-div-mul p (τ .period .0))) ∙ open-at L _ _ _ t p placed
-
-  -- below the deadline: open
-  before-deadline : inPeriod < τ .deadline .0 → inSlotAs (Open (p / τ .period .0)) ≡ inSlot L τ t
-  before-deadline l = window-open L t τ _ test-in-period (lt-ltb _ _ l) _ (job-at L _ _ t p placed)
-
-  -- from the deadline on: closed
-  past-deadline : τ .deadline .0 ≤ inPeriod → inSlotAs Closed ≡ inSlot L τ t
-  past-deadline l = window-closed L t τ _ test-in-period (le-ltb _ _ l)
-
-mul-in-period : tie.Need-mul-in-period
-mul-in-period c = record { fits = lt-of-le-of-lt (div-mul-le-self _ _) (search needs) }
-
-sub-in-period : tie.Need-sub-in-period
-sub-in-period c = div-mul-le-self _ _
+sub-t11 : tie.Need-sub-t11
+sub-t11 c = div-mul-le-self _ _
 
 returns : tie.Need-returns
-returns c = search (needs, before-deadline)
+returns c = search (needs, past-deadline)
 
 returns-2 : tie.Need-returns-2
-returns-2 c = search (needs, past-deadline)
+returns-2 c = search (needs, before-deadline)
 
 pub open-in-spec : {M : Type 1} → statement M
-open-in-spec = tie.close (tie.spec (λ c κs. search needs) (λ c. search needs) mul-in-period sub-in-period returns returns-2)
+open-in-spec = tie.close (tie.spec
+    (λ c κs. search needs) (λ c. search needs) mul-t10 sub-t11 returns
+    (λ c κs. search needs) (λ c. search needs) (λ c. search needs) (λ c. search needs) (λ c. search needs) (λ c κs. search needs) returns-2)

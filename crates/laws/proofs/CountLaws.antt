@@ -1,0 +1,31 @@
+-- Laws of `count`: none, all, and a run of those that pass.
+-- Assumes nothing.
+use Prim.Native.Nat.{ℕ, _+_, _<_}
+use mathlib.Core.Path.{_≡_, sym, ap, _∙_}
+use mathlib.Core.Bool.{Bool}
+use native.Mathlib.Omega.{arith}
+use lib.Dec.{T}
+use Rattle.laws.specs.Sum.{gate, sum, count}
+use Rattle.laws.proofs.SumLaws.{gate-yes, gate-no, sum-ext, sum-zero, sum-split, sum-term, sum-const}
+
+-- none passes: the count is 0
+pub count-none : (n : ℕ) (g : ℕ → Bool) → ((c : ℕ) → c < n → T (g c) → ⊥) → count n g ≡ 0
+unfolding count
+count-none n g h = sum-zero n (λ c. gate (g c) 1) (λ c l. gate-no (g c) 1 (h c l))
+
+-- and the other way
+pub none-counted : (n : ℕ) (g : ℕ → Bool) → count n g ≡ 0 → (c : ℕ) → c < n → T (g c) → ⊥
+unfolding count
+none-counted n g e c l t = omega (arith, e, sum-term n (λ c. gate (g c) 1) c l, gate-yes (g c) 1 t)
+
+-- all pass
+pub count-all : (n : ℕ) (g : ℕ → Bool) → ((c : ℕ) → c < n → T (g c)) → count n g ≡ n
+unfolding count
+count-all n g h = omega (arith, sum-ext n (λ c. gate (g c) 1) (λ c. 1) (λ c l. gate-yes (g c) 1 (h c l)), sum-const n 1)
+
+-- three parts, one behind the other
+pub count-parts : (a b c n : ℕ) (g : ℕ → Bool) → a + b + c ≡ n → count n g ≡ count a g + count b (λ x. g (a + x)) + count c (λ x. g (a + b + x))
+unfolding count
+count-parts a b c n g e =
+    let f : ℕ → ℕ = λ x. gate (g x) 1 in
+    ap (λ k. sum k f) (sym e) ∙ omega (arith, sum-split (a + b) c f, sum-split a b f)
