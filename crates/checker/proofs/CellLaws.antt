@@ -50,10 +50,7 @@ module _ {list : TaskList} {m h : ℕ} {t : List ℕ} (ready : Checkable list m 
   pub few-cores : m ≤ 4
   few-cores = listed .few-cores
 
-  -- and 1 to 1024 slots
-  pub some-slot : 0 < h
-  some-slot = omega (arith, listed .some-slot, ready .slots)
-
+  -- and at most 1024 slots
   pub few-slots : h ≤ 1024
   few-slots = omega (arith, listed .few-slots, ready .slots)
 

@@ -47,7 +47,7 @@ module _ (n : ℕ) (f : ℕ → Bool) where
 
 -- ---- the entry of a task in slot t of L, from what is told of it, r
 module _ (L t : ℕ) (τ : Task) (r : InSlot) (e : r ≡ inSlot L τ t) where
-  -- its job is one of the table's
+  -- its job's number is below 1024
   pub few-jobs : Fit L τ → r .job < 1024
   few-jobs fit = omega (
     arith,

@@ -1,11 +1,11 @@
--- Laws of `count`: none, all, and a run of those that pass.
+-- Laws of `count`: none passes, all pass, and the count in two parts.
 -- Assumes nothing.
 use Prim.Native.Nat.{ℕ, _+_, _<_}
-use mathlib.Core.Path.{_≡_, sym, ap, _∙_}
+use mathlib.Core.Path.{_≡_}
 use mathlib.Core.Bool.{Bool}
 use native.Mathlib.Omega.{arith}
 use lib.Dec.{T}
-use Rattle.laws.specs.Sum.{gate, sum, count}
+use Rattle.laws.specs.Sum.{gate, count}
 use Rattle.laws.proofs.SumLaws.{gate-yes, gate-no, sum-ext, sum-zero, sum-split, sum-term, sum-const}
 
 -- none passes: the count is 0
@@ -23,9 +23,7 @@ pub count-all : (n : ℕ) (g : ℕ → Bool) → ((c : ℕ) → c < n → T (g c
 unfolding count
 count-all n g h = omega (arith, sum-ext n (λ c. gate (g c) 1) (λ c. 1) (λ c l. gate-yes (g c) 1 (h c l)), sum-const n 1)
 
--- three parts, one behind the other
-pub count-parts : (a b c n : ℕ) (g : ℕ → Bool) → a + b + c ≡ n → count n g ≡ count a g + count b (λ x. g (a + x)) + count c (λ x. g (a + b + x))
+-- a count over a + b numbers is that of the first a and that of the other b
+pub count-split : (a b : ℕ) (g : ℕ → Bool) → count (a + b) g ≡ count a g + count b (λ c. g (a + c))
 unfolding count
-count-parts a b c n g e =
-    let f : ℕ → ℕ = λ x. gate (g x) 1 in
-    ap (λ k. sum k f) (sym e) ∙ omega (arith, sum-split (a + b) c f, sum-split a b f)
+count-split a b g = sum-split a b (λ c. gate (g c) 1)

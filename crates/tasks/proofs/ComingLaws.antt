@@ -9,7 +9,7 @@ use native.Mathlib.Nat.{mod-lt, mod-eq-of-lt, mod-eq-sub-mod, add-sub-of-le, div
 use lib.Dec.{T as Passes, ltb, lt→ltb, ltb→lt}
 use Rattle.laws.specs.Sum.{gate, count}
 use Rattle.laws.proofs.SumLaws.{sum-ext, lt-or-ge}
-use Rattle.laws.proofs.CountLaws.{count-none, none-counted, count-all, count-parts}
+use Rattle.laws.proofs.CountLaws.{count-none, none-counted, count-all, count-split}
 use Rattle.tasks.specs.Window.{place, jobAt, IsOpen, isJobs, highest, lastSlot, toCome, Cyclic}
 use Rattle.tasks.proofs.WindowLaws.{pos-L, D-le-L, place-back, job-lt, both, gate-both, work-window, first-slot, highest-ge, highest-is}
 
@@ -40,6 +40,7 @@ module _ (L D a r t : ℕ) (short : D ≤ L) (first : a < L) (inside : r < D) wh
   round : (c : ℕ) → L ≤ a + c → c < D → (a + c) % L ≡ a + c - L
   round c l m = mod-eq-sub-mod l ∙ mod-eq-of-lt (omega arith)
 
+  -- a slot's number decides
   is-higher : (c s : ℕ) → (a + c) % L ≡ s → t < s → Passes (higher c)
   is-higher c s e l = lt→ltb t _ (omega arith)
 
@@ -50,7 +51,9 @@ module _ (L D a r t : ℕ) (short : D ≤ L) (first : a < L) (inside : r < D) wh
   higher-straight : a + r ≡ t → t < L → (x y : ℕ) → r + 1 + x + y ≡ D → (0 < y → t + 1 + x ≡ L) → t + 1 + x ≤ L → count D higher ≡ x
   higher-straight e l x y sizes full room = omega (
     arith,
-    count-parts (r + 1) x y D higher sizes,
+    ap (λ n. count n higher) sizes,
+    count-split (r + 1 + x) y higher,
+    count-split (r + 1) x higher,
     count-none (r + 1) higher (λ c m. not-higher c (a + c) (straight c (omega arith)) (omega arith)),
     count-all x (λ c. higher (r + 1 + c)) (λ c m. is-higher (r + 1 + c) (a + (r + 1 + c)) (straight (r + 1 + c) (omega arith)) (omega arith)),
     count-none y (λ c. higher (r + 1 + x + c)) (λ c m. let f : t + 1 + x ≡ L = full (omega arith) in
@@ -58,10 +61,12 @@ module _ (L D a r t : ℕ) (short : D ≤ L) (first : a < L) (inside : r < D) wh
   )
 
   -- t stands behind it: the b slots before the table's end count, and the y behind t
-  higher-round : a + r ≡ t + L → (b y : ℕ) → t + b ≡ r → r + 1 + y ≡ D → count D higher ≡ b + y
-  higher-round e b y before sizes = omega (
+  higher-round : a + r ≡ t + L → (b y : ℕ) → t + b ≡ r → b + (t + 1) + y ≡ D → count D higher ≡ b + y
+  higher-round e b y before whole = omega (
     arith,
-    count-parts b (t + 1) y D higher (omega arith),
+    ap (λ n. count n higher) whole,
+    count-split (b + (t + 1)) y higher,
+    count-split b (t + 1) higher,
     count-all b higher (λ c m. is-higher c (a + c) (straight c (omega arith)) (omega arith)),
     count-none (t + 1) (λ c. higher (b + c)) (λ c m. not-higher (b + c) (a + (b + c) - L) (round (b + c) (omega arith) (omega arith)) (omega arith)),
     count-all y (λ c. higher (b + (t + 1) + c)) (λ c m. is-higher (b + (t + 1) + c) (a + (b + (t + 1) + c) - L) (round (b + (t + 1) + c) (omega arith) (omega arith)) (omega arith)),
@@ -83,7 +88,7 @@ module _ (L D a r t : ℕ) (short : D ≤ L) (first : a < L) (inside : r < D) wh
       (λ l. let f : a + r ≡ t + L = omega (arith, e ∙ round r l inside) in
       let b : ℕ = r - t in
       let eb : t + b ≡ r = add-sub-of-le (omega arith) in
-      higher-round f b y eb ey ∙ came-round L D r t (b + y) (omega arith) short (omega arith))
+      higher-round f b y eb (omega arith) ∙ came-round L D r t (b + y) (omega arith) short (omega arith))
       (lt-or-ge (a + r) L)
 
 -- ---- the slots to come

@@ -199,7 +199,7 @@ module _ {L D T q : ℕ} (w : Cyclic L D T q) (O : ℕ) where
       ∙ sum-ext D (λ u. g ((O + (K % q * T + u)) % L)) (λ u. g ((O + (K * T + u)) % L)) (λ u l. ap g (sym (slot-again K u)))
 
   -- each slot of a job's window is the job's
-  pub window-slot : (k u : ℕ) → k < q → u < D → Passes (isJobs L O D T k ((O + (k * T + u)) % L))
+  window-slot : (k u : ℕ) → k < q → u < D → Passes (isJobs L O D T k ((O + (k * T + u)) % L))
   window-slot k u h l =
       let r : u < T = omega arith in
       is-jobs L O D T k _ .1 (omega (arith, after-mod (k * T + u), digits-mod k r), after-div (k * T + u) ∙ ap (λ x. x % q) (digits-div k r) ∙ mod-eq-of-lt h)

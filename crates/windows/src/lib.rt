@@ -29,15 +29,15 @@ fn fewer(a: Slots, b: Slots) -> Slots
     if a.0 <= b.0 { a } else { b }
 }
 
-// What is told of a task in a slot.
+// The open test: what is told of a task in a slot.
 pub fn open_in(len: Slots, t: Task, slot: Slots) -> InSlot
     requires { ⌜ Fit (len .0) t × (slot .0 < len .0) ⌝ }
     ensures { λ r. ⌜ r ≡ inSlot (len .0) t (slot .0) ⌝ }
 {
     let p = place(len, t.offset, slot);
     let job = p.0 / t.period.0;
-    let in_period = Slots(p.0 - job * t.period.0);
-    if t.deadline.0 <= in_period.0 {
+    let in_period = p.0 - job * t.period.0;
+    if t.deadline.0 <= in_period {
         return InSlot {
             opens: false,
             job,
@@ -45,12 +45,12 @@ pub fn open_in(len: Slots, t: Task, slot: Slots) -> InSlot
         };
     }
     // So many slots of the window lie right below this one: back to its first, or, where it came round the end, to slot 0.
-    let lower = fewer(in_period, slot);
-    let in_window = Slots(t.deadline.0 - 1 - lower.0);
-    let in_table = Slots(len.0 - 1 - slot.0);
+    let lower = fewer(Slots(in_period), slot);
+    let others = Slots(t.deadline.0 - 1 - lower.0);
+    let above = Slots(len.0 - 1 - slot.0);
     InSlot {
         opens: true,
         job,
-        coming: fewer(in_window, in_table),
+        coming: fewer(others, above),
     }
 }

@@ -6,11 +6,11 @@ use Rattle.windows.proofs.AnswerLaws.{past-deadline, before-deadline}
 use Rattle.windows.proofs.open_in.Statement.{statement}
 use Rattle.windows.proofs.open_in.Tie as tie
 
-mul-t10 : tie.Need-mul-t10
-mul-t10 c = record { fits = lt-of-le-of-lt (div-mul-le-self _ _) (search needs) }
+mul-in-period : tie.Need-mul-in-period
+mul-in-period c = record { fits = lt-of-le-of-lt (div-mul-le-self _ _) (search needs) }
 
-sub-t11 : tie.Need-sub-t11
-sub-t11 c = div-mul-le-self _ _
+sub-in-period : tie.Need-sub-in-period
+sub-in-period c = div-mul-le-self _ _
 
 returns : tie.Need-returns
 returns c = search (needs, past-deadline)
@@ -20,5 +20,5 @@ returns-2 c = search (needs, before-deadline)
 
 pub open-in-spec : {M : Type 1} → statement M
 open-in-spec = tie.close (tie.spec
-    (λ c κs. search needs) (λ c. search needs) mul-t10 sub-t11 returns
+    (λ c κs. search needs) (λ c. search needs) mul-in-period sub-in-period returns
     (λ c κs. search needs) (λ c. search needs) (λ c. search needs) (λ c. search needs) (λ c. search needs) (λ c κs. search needs) returns-2)
