@@ -147,7 +147,7 @@ module _ {list : TaskList} {m h : ℕ} {t : List ℕ} {slot core : ℕ} (at : At
           go zero x l = absurd (x refl)
           go (suc k) x l = ap (taskAt list) (omega arith) ∙ sym (rows-task list k l)
 
-      -- what its window is asked with
+      -- what the open test requires
       pub window-ready : Fit h τ × (slot < h)
       window-ready = (rw (task-is, at .ready .slots) (sound-fit (listed (at .ready)) (nth t c) x (rw rows-length l)), at .slot-in)
 

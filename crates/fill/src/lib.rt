@@ -34,7 +34,7 @@ const MARKS: usize = ENDS_AT - RATES_AT;
 // Where the bits of positive rates begin, behind those of rule A, counted in tasks.
 const RATED_BITS: usize = (RATED_AT - EVEN_AT) * 4;
 
-// The grid's entry for the task at place v in a slot.
+// The grid's entry for the task at place v in a slot: twice the counter of its job, and 1 more where nothing of the job is to come.
 fn entry(len: Slots, t: Task, v: u16, slot: Slots) -> u16
     requires { ⌜ Fit (len .0) t × (v < 16) × (slot .0 < len .0) ⌝ }
     ensures { λ r. ⌜ r ≡ entryFor (len .0) t (suc v) (slot .0) ⌝ }

@@ -47,11 +47,11 @@ module _ (L t : ℕ) (τ : Task) (p : ℕ) (placed : p ≡ place L (τ .offset .
       (λ i. record { opens = false; job = job-is i; coming = record { 0 = 0 } })
 
   -- below it: open, with what the closed form says to come
-  pub before-deadline : Fit L τ → t < L → inPeriod < τ .deadline .0 → (lower : ℕ) → lower ≡ min inPeriod t
-      → (c : Slots) → c .0 ≡ min (τ .deadline .0 - 1 - lower) (L - 1 - t)
+  pub before-deadline : Fit L τ → t < L → inPeriod < τ .deadline .0 → (below : ℕ) → below ≡ min inPeriod t
+      → (c : Slots) → c .0 ≡ min (τ .deadline .0 - 1 - below) (L - 1 - t)
       → record { opens = true; job = p / τ .period .0; coming = c } ≡ inSlot L τ t
   unfolding inSlot gate
-  before-deadline fit there l lower el c ec =
+  before-deadline fit there l below el c ec =
       let l' : place L (τ .offset .0) t % τ .period .0 < τ .deadline .0 = omega (arith, in-period) in
       let e : c .0 ≡ toCome L (τ .offset .0) (τ .deadline .0) (τ .period .0) (jobAt L (τ .offset .0) (τ .period .0) t) t =
       ec ∙ ap (λ x. min (τ .deadline .0 - 1 - x) (L - 1 - t)) (el ∙ ap (λ x. min x t) in-period) ∙ sym (coming-is (fit .cyclic) (τ .offset .0) t there l') in

@@ -6,8 +6,8 @@ ghost use Rattle.windows.specs.Answer.{Fit, inSlot};
 use tasks::Slots;
 use tasks::Task;
 
-// A task in a slot: whether it is open, the number of its job, and how many of the job's slots have a higher number in the
-// table, 0 where it is closed.
+// A task in a slot: whether it is open; the number of its job, in a closed slot too; and how many of the job's slots have a
+// higher number in the table, 0 in a closed slot.
 pub struct InSlot {
     pub opens: bool,
     pub job: u16,
@@ -44,9 +44,10 @@ pub fn open_in(len: Slots, t: Task, slot: Slots) -> InSlot
             coming: Slots(0),
         };
     }
-    // So many slots of the window lie right below this one: back to its first, or, where it came round the end, to slot 0.
-    let lower = fewer(Slots(in_period), slot);
-    let others = Slots(t.deadline.0 - 1 - lower.0);
+    // Right below this slot the window has so many: back to its first, or, where it came round the end, to slot 0. Its others
+    // have higher numbers, as far as the table goes.
+    let below = fewer(Slots(in_period), slot);
+    let others = Slots(t.deadline.0 - 1 - below.0);
     let above = Slots(len.0 - 1 - slot.0);
     InSlot {
         opens: true,
