@@ -35,7 +35,7 @@ highest (suc n) g = cond (g n) n (highest n g)
 abbrev pub lastSlot : ℕ → ℕ → ℕ → ℕ → ℕ → ℕ
 lastSlot L O D T k = highest L (isJobs L O D T k)
 
--- 2.7: how many of job k's slots are still to come at slot t: are the job's, and have a higher number
+-- 2.7: how many of job k's slots are still to come at slot t: those with a higher number
 abbrev pub toCome : ℕ → ℕ → ℕ → ℕ → ℕ → ℕ → ℕ
 toCome L O D T k t = count L (λ u. isJobs L O D T k u && ltb t u)
 
