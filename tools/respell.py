@@ -18,13 +18,14 @@ DECLARES = re.compile(r"^\s*(?:(?:pub|abbrev|unfoldable)\s+)*([A-Za-z][A-Za-z0-9
 MADE = re.compile(r"^(Need|need|returns|loop|if|while|match|then|else|in_|before)(-|$)|-requires|-preserved|-result$|^cast-|^index-|^overflow")
 # where the rule would give two names of one file the same spelling
 APART = {
-    "slot-of": "slot_there",
-    "core-of": "core_there",
+    "slot-of": "the_slot",
+    "core-of": "the_core",
     "can-write": "can_write_all",
     "tick-after": "tick_after_is",
     "in-period": "in_period_is",
 }
 APART_IN = {("crates/checker/proofs/ScanLaws.antt", "counter_at"): "counter_there"}
+LEM = set()
 CRATES = [line.split(":")[0] for line in open("crates.txt") if ":" in line]
 
 
@@ -32,6 +33,12 @@ def spelled(name):
     """The name in snake case; a name with a capital at its head stays a type's, its dashes too."""
     if name in APART:
         return APART[name]
+    if name in LEM:
+        return snake(name) + "_lem"
+    return snake(name)
+
+
+def snake(name):
     if not name[0].islower():
         return name
     out = re.sub(r"(?<=[a-z0-9'])-(?=[A-Za-z0-9])", "_", name)
@@ -94,6 +101,14 @@ def main():
                 m = DECLARES.match(line)
                 if m and line[0].isspace():
                     fields |= set(m.group(1).split())
+    # a law that would have its definition's name
+    defs, laws = set(), set()
+    for path in law_files():
+        if "/specs/" in path:
+            defs |= {n for line in read(path).split("\n") if line[:1].strip() for n in declared(line)}
+        else:
+            laws |= set(declared(read(path)))
+    LEM.update(n for n in laws - defs if snake(n) in {snake(d) for d in defs} and n not in APART and snake(n) != n)
     # what port.py gave other names: the declarations of a file stand in the same order before and after it
     given = {}
     for path in law_files():

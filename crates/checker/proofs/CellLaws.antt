@@ -108,18 +108,18 @@ module _ {list : TaskList} {m h : ℕ} {t : List ℕ} {slot core : ℕ} (at : At
   c = slot * m + core
 
   -- the cell's slot and core
-  pub slot_there : slot_of P c ≡ slot
+  pub the_slot : slot_of P c ≡ slot
   unfolding instance_of
-  slot_there = digits_div slot at.core_in
+  the_slot = digits_div slot at.core_in
 
-  pub core_there : core_of P c ≡ core
+  pub the_core : core_of P c ≡ core
   unfolding instance_of
-  core_there = digits_mod slot at.core_in
+  the_core = digits_mod slot at.core_in
 
   -- its value on the earlier cores
   free_of : (v : ℕ) → free_in t (slot * m) core v ≡ free P c (nth t) v
   unfolding instance_of free_in free
-  free_of v = λ i. all (sym core_there i) (λ j. not (eqb (nth t (sym slot_there i * m + j)) v))
+  free_of v = λ i. all (sym the_core i) (λ j. not (eqb (nth t (sym the_slot i * m + j)) v))
 
   -- an idle cell
   pub idle_there : nth t c ≡ 0 → Nothing ≡ effect_of P (nth t) c
@@ -154,17 +154,17 @@ module _ {list : TaskList} {m h : ℕ} {t : List ℕ} {slot core : ℕ} (at : At
       -- whether it is open
       opens_is : is_open h τ.offset.0 τ.deadline.0 τ.period.0 slot ≡ P.opens (nth t c) (slot_of P c)
       unfolding instance_of
-      opens_is = λ i. is_open h (task_is i).offset.0 (task_is i).deadline.0 (task_is i).period.0 (sym slot_there i)
+      opens_is = λ i. is_open h (task_is i).offset.0 (task_is i).deadline.0 (task_is i).period.0 (sym the_slot i)
 
       -- its job
       job_is : job_at h τ.offset.0 τ.period.0 slot ≡ P.job (nth t c) (slot_of P c)
       unfolding instance_of
-      job_is = λ i. job_at h (task_is i).offset.0 (task_is i).period.0 (sym slot_there i)
+      job_is = λ i. job_at h (task_is i).offset.0 (task_is i).period.0 (sym the_slot i)
 
       -- its rate
       rate_is : rate τ core ≡ P.rate (nth t c) (core_of P c)
       unfolding instance_of
-      rate_is = λ i. rate (task_is i) (sym core_there i)
+      rate_is = λ i. rate (task_is i) (sym the_core i)
 
       -- its work
       work_is : τ.work ≡ record { 0 = P.work (nth t c) }

@@ -30,7 +30,7 @@ pub record Names (P : Instance) (f : ℕ → ℕ) (x : Fault) : Type 0 where
   -- a cell that is named is the first faulty one
   pub first_cell : (s j kind : ℕ) → x ≡ in_cell s j kind → FirstCell P f s j kind
   -- a job that is named is the first faulty one, and no cell is faulty
-  pub first_job : (i k kind : ℕ) → x ≡ in_job i k kind → FirstJob P f i k kind
+  pub first_job_lem : (i k kind : ℕ) → x ≡ in_job i k kind → FirstJob P f i k kind
 
 -- what is told of a buffer t for a list
 pub record Tells (m : ℕ) (ts : List Task) (t : List ℕ) (x : Checked) : Type 0 where
@@ -50,7 +50,7 @@ pub names : (P : Instance) (f : ℕ → ℕ) → Regular P → Names P f (fault 
 names P f regular = record {
   none_exact = (λ e. none_valid P f regular (subst (Says P f) e says), λ v. faultless P f (valid_none P f v) (fault P f) says);
   first_cell = λ s j kind e. subst (Says P f) e says;
-  first_job = λ i k kind e. subst (Says P f) e says;
+  first_job_lem = λ i k kind e. subst (Says P f) e says;
 }
   where
     says : Says P f (fault P f)
@@ -92,7 +92,7 @@ module _ (m : ℕ) (ts : List Task) (t : List ℕ) where
     table_tells l = record {
       valid_exact = (λ e. (sound, l, n.none_exact.0 (cc)), λ v. ap checked (n.none_exact.1 v.2));
       names_cell = λ s j kind e. n.first_cell s j kind (cc);
-      names_job = λ i k kind e. n.first_job i k kind (cc);
+      names_job = λ i k kind e. n.first_job_lem i k kind (cc);
       refuses_exact = λ r. (
         λ e. absurd (refused_not (sym e)),
         ⊎_elim (λ q. absurd (q.1 (q.0 ∙ sound))) (λ q. absurd (omega (arith, q.2))),

@@ -17,9 +17,9 @@ use Rattle.tasks.proofs.AnswerLaws.{unless_yes, unless_no}
 use Rattle.table.specs.Table.{cells, slot_of, core_of, beside, done, free, Valid}
 use Rattle.table.specs.Fault.{known_kind, kind_of, cell_kind, all_needed, job_kind, Fault, no_fault, in_cell, in_job, first_job, job_fault, fault}
 use Rattle.checker.specs.Faulty.{Fine, Wrong, unknown, closed, unrated, twice, Met, WrongWork, too_little, after_complete, FirstCell, FirstJob}
-use Rattle.table.proofs.JobLaws.{job_slot, slot_job}
+use Rattle.table.proofs.JobLaws.{job_slot_lem, slot_job}
 use Rattle.table.proofs.TableLaws.{slot_there, done_more, beside_before, beside_slot, free_apart}
-use Rattle.table.proofs.WorkLaws.{work_little, work_unneeded, work_met, all_needed, not_needed}
+use Rattle.table.proofs.WorkLaws.{work_little, work_unneeded, work_met, all_needed_lem, not_needed}
 
 -- a test passed or failed
 tested : (b : Bool) → T b ⊎ (T b → ⊥)
@@ -135,7 +135,7 @@ module _ (P : Instance) (f : ℕ → ℕ) where
     met_job e = ⊎_elim
         (λ l. absurd (omega (arith, work_little _ _ (all_needed P (cells P) f i k) l)))
         (λ l. ⊎_elim
-        (λ y. record { full = l; needed = (all_needed P f (cells P) i k).0 y })
+        (λ y. record { full = l; needed = (all_needed_lem P f (cells P) i k).0 y })
         (λ n. absurd (omega (arith, work_unneeded _ _ (all_needed P (cells P) f i k) l n)))
         (tested (all_needed P (cells P) f i k)))
         (lt_or_ge (done P (cells P) f i k) (P.work i))
@@ -265,7 +265,7 @@ module _ (P : Instance) (f : ℕ → ℕ) where
     full = λ i k x l q. (r.jobs_met i k x l q).full;
     needed = λ c l x. (r.jobs_met (f c) (P.job (f c) (slot_of P c)) x (r.cells_fine c l).known
         (regular.job_there (f c) (slot_of P c) x (r.cells_fine c l).known (slot_there P regular.some_core c l))
-        ).needed c l refl (job_slot P (f c) (P.job (f c) (slot_of P c)) (slot_of P c) ((r.cells_fine c l).open_there x) refl);
+        ).needed c l refl (job_slot_lem P (f c) (P.job (f c) (slot_of P c)) (slot_of P c) ((r.cells_fine c l).open_there x) refl);
   }
 
   -- and a valid one has no fault

@@ -24,8 +24,8 @@ use Rattle.tasks.specs.declared.TaskList.{TaskList}
 use Rattle.tasks.specs.Instance.{Instance, instance_of}
 use Rattle.table.specs.Table.{cells, slot_of, core_of, of_job, share, done}
 use Rattle.table.specs.Fault.{cell_kind, all_needed, in_cell, checked}
-use Rattle.table.proofs.JobLaws.{job_slot, slot_job}
-use Rattle.table.proofs.ShareLaws.{of_job, is_of_job}
+use Rattle.table.proofs.JobLaws.{job_slot_lem, slot_job}
+use Rattle.table.proofs.ShareLaws.{of_job_lem, is_of_job}
 use Rattle.table.proofs.TableLaws.{slot_there}
 use Rattle.faults.specs.Tests.{counter_at, unneeded, count_of, counted}
 use Rattle.faults.proofs.TestLaws.{counted_count}
@@ -35,7 +35,7 @@ use Rattle.checker.specs.declared.Effect.TheVariants.{Nothing, Does, Faulty}
 use Rattle.checker.specs.Checks.{checked_as, instance_for, Checkable, At, effect_if, effect_of, job_count, Counted, cell_fault, CellsTold}
 use Rattle.checker.specs.Faulty.{Fine}
 use Rattle.checker.proofs.FaultLaws.{after, kind_idle, kind_fine}
-use Rattle.checker.proofs.CellLaws.{Small, ready_small, slot_there, core_there, cell_in}
+use Rattle.checker.proofs.CellLaws.{Small, ready_small, the_slot, the_core, cell_in}
 
 -- the first c cells have no fault, and their work is counted
 pub record Passed (P : Instance) (f : ℕ → ℕ) (c : ℕ) (counters : List ℕ) : Type 0 where
@@ -128,7 +128,7 @@ module _ {P : Instance} {f : ℕ → ℕ} {counters : List ℕ} where
           counted = record {
             size = p.counted.size;
             count = λ i k l q. p.counted.count i k l q
-                ∙ sym (count_other P f c (suc i) k (λ t. omega (arith, z, (of_job P (suc i) k c (f c) t).0)));
+                ∙ sym (count_other P f c (suc i) k (λ t. omega (arith, z, (of_job_lem P (suc i) k c (f c) t).0)));
           };
         }
 
@@ -199,13 +199,13 @@ module _ {P : Instance} {f : ℕ → ℕ} {counters : List ℕ} where
                   let t : suc a ≡ f c = omega (arith, q, is.2, few_i, after (f c) is.0) in
                   let j : b ≡ k = omega (arith, q, is.2, few_i) in
                   (λ m. counted (is.4 m) (so_far m) (is.3 m))
-                  ∙ count_own P f c (f c) k (omega (arith, little)) (is_of_job P (f c) k c (f c) refl (job_slot P (f c) k (slot_of P c) (fine.open_there is.0) refl))
+                  ∙ count_own P f c (f c) k (omega (arith, little)) (is_of_job P (f c) k c (f c) refl (job_slot_lem P (f c) k (slot_of P c) (fine.open_there is.0) refl))
                   ∙ (λ m. job_count P (c + 1) f (sym t m) (sym j m))
 
               -- the cell is of no other job
               others : counter_at a b ≢ x → T (of_job P (suc a) b c (f c)) → ⊥
               others y h =
-                  let q = of_job P (suc a) b c (f c) h in
+                  let q = of_job_lem P (suc a) b c (f c) h in
                   y (sym (is.2 ∙ (λ m. counter_at (pred (q.0 m)) ((ap (λ u. P.job u (slot_of P c)) q.0 ∙ (slot_job P (suc a) b (slot_of P c) q.1).1) m))))
 
     -- at a faulty cell
@@ -260,7 +260,7 @@ module _ {list : TaskList} {m h : ℕ} {t : List ℕ} {slot core : ℕ} (at : At
 
   -- at a faulty cell
   pub stops_at : {kind : ℕ} → r ≡ Faulty kind → CellsTold (instance_for list m h) (nth t) (Cell slot (core + 1) kind) counters
-  stops_at q = stops p (cell_there at) (sym e ∙ q) (slot_there at) (core_there at)
+  stops_at q = stops p (cell_there at) (sym e ∙ q) (the_slot at) (the_core at)
 
 -- after the last slot
 pub ends_at : {list : TaskList} {m h : ℕ} {t : List ℕ} → Checkable list m h t → {slot : ℕ} {counters : List ℕ}

@@ -29,7 +29,7 @@ use Rattle.table.specs.Fault.{cell_kind, all_needed, job_kind, no_fault, in_job,
 use Rattle.table.proofs.TableLaws.{done_more}
 use Rattle.table.proofs.WorkLaws.{not_needed, needed_few}
 use Rattle.faults.specs.Tests.{counter_at, count_of, count_kind, counted_kind}
-use Rattle.faults.proofs.TestLaws.{count_kind}
+use Rattle.faults.proofs.TestLaws.{count_kind_lem}
 use Rattle.checker.specs.contracts.Verdict.{the_type}
 use Rattle.checker.specs.declared.Verdict.{Verdict}
 use Rattle.checker.specs.declared.Verdict.TheVariants.{Valid, Cell, Job, Refused}
@@ -98,7 +98,7 @@ job_same n jobs g h e = ⊎_elim
 
 -- a job's count tells its fault
 job_counted : {P : Instance} → Small P → (f : ℕ → ℕ) (i k : ℕ) → i ≢ 0 → i ≤ P.tasks → count_kind (P.work i) (job_count P (cells P) f i k) ≡ job_kind P f i k
-job_counted {P} small f i k x l = count_kind (P.work i) (done P (cells P) f i k) (omega (arith, small.little_work i x l)) (all_needed P (cells P) f i k)
+job_counted {P} small f i k x l = count_kind_lem (P.work i) (done P (cells P) f i k) (omega (arith, small.little_work i x l)) (all_needed P (cells P) f i k)
     (λ y e. omega (arith, needed_few P small.regular.some_core f i k 15 (λ j. small.few_units i j x l) (cells P) y, small.little_work i x l))
     (λ n. let d = not_needed P f (cells P) i k n in omega (arith, d.4, done_more P d.0 (cells P) f i k (omega (arith, d.1))))
 

@@ -21,7 +21,7 @@ use Rattle.tasks.specs.Task.{rate, task}
 use Rattle.tasks.specs.Refusal.{within, unless, or_next, most_rate, rates_fit, task_refusal, list_refusal, table_length, refusal, IsSound}
 use Rattle.tasks.specs.Instance.{instance_of, own_instance}
 use Rattle.tasks.proofs.SoundLaws.{within_is, is_within, rates_at, sound_list, own_regular}
-use Rattle.tasks.proofs.AnswerLaws.{unless_yes, unless_no, rates_under, or_first, or_next}
+use Rattle.tasks.proofs.AnswerLaws.{unless_yes, unless_no, rates_under, or_first, or_next_lem}
 use Rattle.table.specs.Table.{cells, Valid}
 use Rattle.table.specs.Fault.{Fault, no_fault, in_cell, in_job, fault}
 use Rattle.rules.specs.Search.{search_refusal}
@@ -155,7 +155,7 @@ judge R false refuses goes = refuses (λ t. t)
 -- a refusal, or what comes after
 judge_next : (R : ℕ → Type 0) (x : ℕ) {next : ℕ} → (x ≢ 0 → R x) → (x ≡ 0 → R next) → R (or_next x next)
 judge_next R x refuses goes = elim (ℕ_discrete x 0) [
-  | yes z ↦ subst R (or_next x x _ _ refl z refl) (goes z)
+  | yes z ↦ subst R (or_next_lem x x _ _ refl z refl) (goes z)
   | no y ↦ subst R (or_first x x _ refl y) (refuses y)
 ]
 
@@ -181,9 +181,9 @@ not_le x y f = ⊎_elim (λ l. l) (λ l. absurd (f (le→leb x y l))) (lt_or_ge 
 
 module _ (m : ℕ) (τ : Task) where
   -- the definition's refusal of a task
-  task_of : OfTask m τ (task_refusal m τ)
+  task_of_lem : OfTask m τ (task_refusal m τ)
   unfolding task_refusal rates_fit
-  task_of =
+  task_of_lem =
       judge (OfTask m τ) _ (λ x. period (outside _ _ _ x)) (λ a.
       judge (OfTask m τ) _ (λ x. deadline (within_is _ _ _ a) (outside _ _ _ x)) (λ b.
       judge (OfTask m τ) _ (λ x. work (within_is _ _ _ a) (within_is _ _ _ b) (outside _ _ _ x)) (λ c.
@@ -210,14 +210,14 @@ module _ (m : ℕ) (ts : List Task) where
 
   -- a task that is not refused
   task_none : (j : ℕ) → at j ≡ 0 → OfTask m (task ts (suc j)) 0
-  task_none j e = subst (OfTask m (task ts (suc j))) e (task_of m (task ts (suc j)))
+  task_none j e = subst (OfTask m (task ts (suc j))) e (task_of_lem m (task ts (suc j)))
 
   -- the first task that is refused
   first_task : Within 1 16 (length ts) → Within 1 4 m → list_refusal m ts ≢ 0 → OfList m ts (list_refusal m ts)
   unfolding list_refusal
   first_task a b x = ⊎_elim
       (λ l. let e : list_refusal m ts ≡ at (seek (length ts) at) = gate_lt (seek (length ts) at) (length ts) (at (seek (length ts) at)) l in
-      of_task a b (seek (length ts) at) l (λ j h. task_none j (seek_before (length ts) at j h)) x (subst (OfTask m (task ts (suc (seek (length ts) at)))) (sym e) (task_of m _)))
+      of_task a b (seek (length ts) at) l (λ j h. task_none j (seek_before (length ts) at j h)) x (subst (OfTask m (task ts (suc (seek (length ts) at)))) (sym e) (task_of_lem m _)))
       (λ l. absurd (x (gate_ge (seek (length ts) at) (length ts) (at (seek (length ts) at)) l)))
       (lt_or_ge (seek (length ts) at) (length ts))
 
@@ -245,10 +245,10 @@ module _ (m : ℕ) (ts : List Task) where
       let f : list_refusal m ts ≡ _ = first_is (length ts) i at l (λ j h. task_is m _ (each j h)) (λ z. x (sym e ∙ z)) ∙ e in
       unless_yes _ _ _ (passes a) ∙ unless_yes _ _ _ (passes b) ∙ sym (or_first _ (list_refusal m ts) _ (sym f) x)
   list_is (too_long a b each x) =
-      unless_yes _ _ _ (passes a) ∙ unless_yes _ _ _ (passes b) ∙ sym (or_next 0 (list_refusal m ts) _ _ (sym (first_none (length ts) at (λ j h. task_is m _ (each j h)))) refl refl)
+      unless_yes _ _ _ (passes a) ∙ unless_yes _ _ _ (passes b) ∙ sym (or_next_lem 0 (list_refusal m ts) _ _ (sym (first_none (length ts) at (λ j h. task_is m _ (each j h)))) refl refl)
       ∙ unless_no _ _ _ (λ t. omega (arith, x, leb→le (table_length ts) 1024 t))
   list_is (none a b each h) =
-      unless_yes _ _ _ (passes a) ∙ unless_yes _ _ _ (passes b) ∙ sym (or_next 0 (list_refusal m ts) _ _ (sym (first_none (length ts) at (λ j h. task_is m _ (each j h)))) refl refl)
+      unless_yes _ _ _ (passes a) ∙ unless_yes _ _ _ (passes b) ∙ sym (or_next_lem 0 (list_refusal m ts) _ _ (sym (first_none (length ts) at (λ j h. task_is m _ (each j h)))) refl refl)
       ∙ unless_yes _ _ _ (le→leb _ _ h)
 
   -- a sound list has none
@@ -358,10 +358,10 @@ module _ (m : ℕ) (ts : List Task) (e : ℕ) (t : List ℕ) where
   search_is : {k : ℕ} → OfSearch m ts e t k → search_refusal m ts e (length t) ≡ k
   unfolding search_refusal
   search_is (of_list x h) = sym (or_first _ (refusal m ts) _ (sym (list_is m ts h)) x)
-  search_is (engine s x) = sym (or_next 0 (refusal m ts) _ _ (sym (list_is m ts s)) refl refl) ∙ unless_no _ _ _ (λ a. omega (arith, x, leb→le e 1 a))
-  search_is (short s a x) = sym (or_next 0 (refusal m ts) _ _ (sym (list_is m ts s)) refl refl) ∙ unless_yes _ _ _ (le→leb _ _ a)
+  search_is (engine s x) = sym (or_next_lem 0 (refusal m ts) _ _ (sym (list_is m ts s)) refl refl) ∙ unless_no _ _ _ (λ a. omega (arith, x, leb→le e 1 a))
+  search_is (short s a x) = sym (or_next_lem 0 (refusal m ts) _ _ (sym (list_is m ts s)) refl refl) ∙ unless_yes _ _ _ (le→leb _ _ a)
       ∙ unless_no _ _ _ (λ b. omega (arith, x, leb→le (cells (own_instance m ts)) (length t) b))
-  search_is (none s a b) = sym (or_next 0 (refusal m ts) _ _ (sym (list_is m ts s)) refl refl) ∙ unless_yes _ _ _ (le→leb _ _ a) ∙ unless_yes _ _ _ (le→leb _ _ b)
+  search_is (none s a b) = sym (or_next_lem 0 (refusal m ts) _ _ (sym (list_is m ts s)) refl refl) ∙ unless_yes _ _ _ (le→leb _ _ a) ∙ unless_yes _ _ _ (le→leb _ _ b)
 
   -- it is not above 10
   search_most : {k : ℕ} → OfSearch m ts e t k → k ≤ 10

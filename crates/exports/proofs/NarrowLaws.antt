@@ -119,7 +119,7 @@ module _ (ts : List Task) where
       (e.0 ∙ ap (λ a. started a ts t tick) is_m ∙ h.0, e.1 ∙ ap (λ a. after_start a ts t tick p) is_m ∙ h.1)
 
   -- a search of the narrowed numbers, told as a number
-  pub search_told : {m e : ℕ} (cores engine b : ℕ) (t u : List ℕ) (r : Answer) {k : ℕ} → m ≡ narrowed cores → e ≡ narrowed engine → searched_as r u ≡ search m ts e b t → k ≡ with_verdict r.verdict r.tries → SearchNumber k u (search cores ts engine b t)
-  search_told {m} {e} cores engine b t u r is_m is-e is is-k =
+  pub search_told_lem : {m e : ℕ} (cores engine b : ℕ) (t u : List ℕ) (r : Answer) {k : ℕ} → m ≡ narrowed cores → e ≡ narrowed engine → searched_as r u ≡ search m ts e b t → k ≡ with_verdict r.verdict r.tries → SearchNumber k u (search cores ts engine b t)
+  search_told_lem {m} {e} cores engine b t u r is_m is-e is is-k =
       let h = is ∙ ap (λ a. search a ts e b t) is_m ∙ ap (λ a. search (narrowed cores) ts a b t) is-e ∙ search_narrowed cores engine b t in
       record { answer = is-k ∙ ap (λ s. with_verdict s.verdict s.tries) h; left = ap (λ s. s.buffer) h }

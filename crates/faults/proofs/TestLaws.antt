@@ -61,10 +61,10 @@ module _ (C d : ℕ) (few : C ≤ unneeded) where
   counted_count false s = rw (le-ltb unneeded C few)
 
   -- and its fault, if the job was complete before a cell that was not needed
-  pub count_kind : (needed : Bool) → (T needed → d ≢ unneeded) → ((T needed → ⊥) → C ≤ d) → count_kind C (count_of needed d) ≡ work_kind C d needed
+  pub count_kind_lem : (needed : Bool) → (T needed → d ≢ unneeded) → ((T needed → ⊥) → C ≤ d) → count_kind C (count_of needed d) ≡ work_kind C d needed
   unfolding count_kind count_of
-  count_kind true y h = rw (ne_eqb d unneeded (y tt))
-  count_kind false y h = work_unneeded C unneeded _ few (λ t. t) ∙ sym (work_unneeded C d false (h (λ t. t)) (λ t. t))
+  count_kind_lem true y h = rw (ne_eqb d unneeded (y tt))
+  count_kind_lem false y h = work_unneeded C unneeded _ few (λ t. t) ∙ sym (work_unneeded C d false (h (λ t. t)) (λ t. t))
 
 -- ---- the fault of a job, as its counter tells it
 pub counted_is : (counters : List ℕ) (place C k : ℕ) {x kind : ℕ} → x ≡ counter_at place k → kind ≡ count_kind C (nth counters x) → kind ≡ counted_kind counters place C k

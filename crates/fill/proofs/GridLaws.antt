@@ -24,7 +24,7 @@ use Rattle.tasks.specs.Refusal.{IsSound, table_length}
 use Rattle.tasks.specs.Window.{is_jobs}
 use Rattle.tasks.specs.Instance.{job_slot, instance_of, own_instance}
 use Rattle.tasks.proofs.SoundLaws.{rows_length, rows_task, SoundList, sound_list, length_whole, sound_cyclic, instance_regular}
-use Rattle.tasks.proofs.WindowLaws.{job_slot, highest_passes}
+use Rattle.tasks.proofs.WindowLaws.{job_slot_lem, highest_passes}
 use Rattle.windows.specs.Answer.{Fit}
 use Rattle.windows.proofs.AnswerLaws.{sound_fit}
 use Rattle.rules.specs.Rules.{even_rates, twin}
@@ -32,7 +32,7 @@ use Rattle.sets.specs.Sets.{has}
 use Rattle.grid.specs.Grid.{cores_on, sets_at, OnGrid}
 use Rattle.grid.specs.GridFor.{Small, entry_of, is_quick, GridFor}
 use Rattle.grid.proofs.GridForLaws.{test_same, counter_le}
-use Rattle.grid.proofs.ReadLaws.{sets_at}
+use Rattle.grid.proofs.ReadLaws.{sets_at_lem}
 use Rattle.fill.specs.Grid.{entry_for, entry_at, even_pair, pair_even, row_even, cores_twin, quick_mark, task_bits, four_tasks, set_marks, twin_marks, task_count, core_count, slot_count, marks, mark_at, end_mark, unmarked_of, grid_of}
 use Rattle.fill.proofs.FillLaws.{size_tasks, size_cores, size_slots, at_rate, at_set, at_twin, at_size}
 use Rattle.fill.proofs.BitLaws.{bits_even_has, bits_rated_has, four_lt, four_has}
@@ -56,7 +56,7 @@ module _ {m : ℕ} (list : TaskList) (s : SoundList m (rows list)) where
     few_tasks = s.few_tasks;
     few_jobs = λ i x l. omega (arith, div-le_self (table_length (rows list)) (task (rows list) i).period.0, s.few_slots);
     job_ends = λ i k x l h.
-        let w = job_slot (sound_cyclic s (length_whole s) i x l) (task (rows list) i).offset.0 k h in
+        let w = job_slot_lem (sound_cyclic s (length_whole s) i x l) (task (rows list) i).offset.0 k h in
         highest_passes (table_length (rows list)) (job_slot (own_instance m (rows list)) i k) w.0 w.1 w.2;
   }
 
@@ -169,16 +169,16 @@ module _ {m : ℕ} (list : TaskList) (s : SoundList m (rows list)) where
 
   module _ (e : ℕ) where
     -- the marks of the list's own table
-    mark_at : (p x : ℕ) → p ≡ 16384 + x → x < marks → nth (grid_of list m e (table_length (rows list)) (replicate 17499 0)) p ≡ mark_at list.n list.rates m e (table_length (rows list)) x
+    mark_at_lem : (p x : ℕ) → p ≡ 16384 + x → x < marks → nth (grid_of list m e (table_length (rows list)) (replicate 17499 0)) p ≡ mark_at list.n list.rates m e (table_length (rows list)) x
     unfolding grid
-    mark_at = at_mark list m e (table_length (rows list)) s.few_slots
+    mark_at_lem = at_mark list m e (table_length (rows list)) s.few_slots
 
     -- the sets that stand in four places, p places behind the first of rule A
     set_has : (p v c : ℕ) → p ≤ 4 → v < 16 → c < 4
         → has (sets_at (grid_of list m e (table_length (rows list)) (replicate 17499 0)) (16448 + p)) v c ≡ has (task_bits e list.rates (p * 4 + v)) 0 c
     set_has p v c lp lv lc =
         ap (λ w. has (sets_at own (16448 + p)) w c) (omega arith)
-        ∙ sets_at own (16448 + p) (v / 4) (v % 4) c (omega arith) (omega arith) lc (λ k lk. rw (place k lk) (four_lt e list.rates (p + k)))
+        ∙ sets_at_lem own (16448 + p) (v / 4) (v % 4) c (omega arith) (omega arith) lc (λ k lk. rw (place k lk) (four_lt e list.rates (p + k)))
         ∙ ap (λ s. has s (v % 4) c) (place (v / 4) (omega arith)) ∙ four_has e list.rates (p + v / 4) (v % 4) c (omega arith) lc
         ∙ ap (λ y. has (task_bits e list.rates y) 0 c) (omega arith)
       where
@@ -186,15 +186,15 @@ module _ {m : ℕ} (list : TaskList) (s : SoundList m (rows list)) where
         own = grid_of list m e (table_length (rows list)) (replicate 17499 0)
 
         place : (k : ℕ) → k < 4 → nth own (16448 + p + k) ≡ four_tasks e list.rates (p + k)
-        place k lk = mark_at (16448 + p + k) (set_marks + (p + k)) (omega arith) (omega arith) ∙ at_set _ _ _ _ _ _ (omega arith) (omega arith) ∙ ap (four_tasks e list.rates) (omega arith)
+        place k lk = mark_at_lem (16448 + p + k) (set_marks + (p + k)) (omega arith) (omega arith) ∙ at_set _ _ _ _ _ _ (omega arith) (omega arith) ∙ ap (four_tasks e list.rates) (omega arith)
 
     -- the grid is ready for the instance
     pub grid_for : GridFor (own_instance m (rows list)) e (grid_of list m e (table_length (rows list)) (replicate 17499 0))
     unfolding grid instance_of quick_mark
     grid_for = record {
-      slots = mark_at 16474 slot_count refl (omega arith) ∙ at_size _ _ _ _ _ slot_count (omega arith) ∙ sym (size_slots _ _ _ slot_count (omega arith) (omega arith));
-      cores = mark_at 16473 core_count refl (omega arith) ∙ at_size _ _ _ _ _ core_count (omega arith) ∙ sym (size_cores _ _ _ core_count refl);
-      tasks = mark_at 16472 task_count refl (omega arith) ∙ at_size _ _ _ _ _ task_count (omega arith) ∙ sym (size_tasks _ _ _ task_count refl) ∙ sym (rows_length list);
+      slots = mark_at_lem 16474 slot_count refl (omega arith) ∙ at_size _ _ _ _ _ slot_count (omega arith) ∙ sym (size_slots _ _ _ slot_count (omega arith) (omega arith));
+      cores = mark_at_lem 16473 core_count refl (omega arith) ∙ at_size _ _ _ _ _ core_count (omega arith) ∙ sym (size_cores _ _ _ core_count refl);
+      tasks = mark_at_lem 16472 task_count refl (omega arith) ∙ at_size _ _ _ _ _ task_count (omega arith) ∙ sym (size_tasks _ _ _ task_count refl) ∙ sym (rows_length list);
       entries = λ t v lt lv. let k = is_task v lv in
           at_entry list m e (table_length (rows list)) s.few_slots (t * 16 + v) (omega (arith, rows_length list, s.few_tasks))
           ∙ entry_is list (table_length (rows list)) t v (omega (arith, rows_length list, s.few_tasks)) k.0
@@ -202,13 +202,13 @@ module _ {m : ℕ} (list : TaskList) (s : SoundList m (rows list)) where
       ends = λ t v lt lv z.
           at_ends list m e (table_length (rows list)) s.few_slots t v lt (is_task v lv).0 (omega (arith, rows_length list, s.few_tasks)) z;
       rates = λ v j lv lj. let few : j < 4 = omega (arith, s.few_cores) in let small : v < 16 = omega (arith, s.few_tasks) in
-          mark_at (16384 + (v * 4 + j)) (v * 4 + j) refl (omega arith) ∙ at_rate _ _ _ _ _ _ (omega arith) ∙ rate_same v j lv few;
+          mark_at_lem (16384 + (v * 4 + j)) (v * 4 + j) refl (omega arith) ∙ at_rate _ _ _ _ _ _ (omega arith) ∙ rate_same v j lv few;
       rated = λ v j lv lj. let few : j < 4 = omega (arith, s.few_cores) in
           set_has 4 v j (omega arith) (omega (arith, s.few_tasks)) few ∙ bits_rated_has e list.rates v j few ∙ ap (ltb 0) (rate_same v j lv few);
       evens = λ v lv. let small : v < 16 = omega (arith, s.few_tasks) in
           set_has 0 v 0 (omega arith) small (omega arith) ∙ ap (λ y. has (task_bits e list.rates y) 0 0) (zero-add v) ∙ bits_even_has e list.rates v small ∙ ap (λ b. is_quick e && b) (even_same v lv);
       twins = λ a j la lj. let few : a < 4 = omega (arith, s.few_cores) in let less : j < 4 = omega arith in let y_same : twin_marks + (a * 4 + j) - twin_marks ≡ a * 4 + j = omega arith in
-          mark_at (16456 + (a * 4 + j)) (twin_marks + (a * 4 + j)) (omega arith) (omega arith) ∙ at_twin _ _ _ _ _ _ (omega arith) (omega arith)
+          mark_at_lem (16456 + (a * 4 + j)) (twin_marks + (a * 4 + j)) (omega arith) (omega arith) ∙ at_twin _ _ _ _ _ _ (omega arith) (omega arith)
           ∙ ap (λ b. gate (is_quick e && b) 1) (ap (λ y. cores_twin list.n list.rates (y % 4) (y / 4)) y_same ∙ ap₂ (cores_twin list.n list.rates) (digits_mod a less) (digits_div a less) ∙ twin_same j a less few);
     }
 

@@ -29,12 +29,12 @@ unfolding line_refusal frame_refusal length_refusal
 line_of_file l = of_file _ 21 _ (omega arith) (omega arith) (of_file _ 22 _ (omega arith) (omega arith) (of_file _ 23 _ (omega arith) (omega arith) (of_file _ 24 0 (omega arith) (omega arith) (inl refl))))
 
 module _ (P : Read → Type 0) (refuses : (k : ℕ) → 20 ≤ k → k ≤ 24 → P (refused k)) where
-  or_read : (k : ℕ) (r : Read) → OfFile k → (k ≡ 0 → P r) → P (or_read k r)
-  or_read zero r n h = h refl
-  or_read (suc k) r n h = ⊎_elim (λ z. absurd (omega arith)) (λ q. refuses (suc k) q.0 q.1) n
+  or_read_lem : (k : ℕ) (r : Read) → OfFile k → (k ≡ 0 → P r) → P (or_read k r)
+  or_read_lem zero r n h = h refl
+  or_read_lem (suc k) r n h = ⊎_elim (λ z. absurd (omega arith)) (λ q. refuses (suc k) q.0 q.1) n
 
   unless_read : (b : Bool) (k : ℕ) (r : Read) → 20 ≤ k → k ≤ 24 → (b ≡ true → P r) → P (or_read (unless b k 0) r)
-  unless_read b k r low high h = or_read (unless b k 0) r (of_file b k 0 low high (inl refl)) (λ e. h (unless_none b k 0 (omega arith) e).0)
+  unless_read b k r low high h = or_read_lem (unless b k 0) r (of_file b k 0 low high (inl refl)) (λ e. h (unless_none b k 0 (omega arith) e).0)
 
   -- behind the last line
   pub end_read : (s : Reading) → P (said s) → P (read_lines s [])
@@ -47,7 +47,7 @@ module _ (P : Read → Type 0) (refuses : (k : ℕ) → 20 ≤ k → k ≤ 24 �
       → P (read_lines s (l ∷ ls))
   unfolding read_lines place_refusal
   line_read l ls s h =
-      or_read (line_refusal l) (or_read (place_refusal s (bytes_of l.text)) (read_lines (taken_frame s (bytes_of l.text)) ls)) (line_of_file l) (λ e.
+      or_read_lem (line_refusal l) (or_read (place_refusal s (bytes_of l.text)) (read_lines (taken_frame s (bytes_of l.text)) ls)) (line_of_file l) (λ e.
       unless_read (in_place (nth s.last 0) (length s.tasks) (bytes_of l.text)) 24 (read_lines (taken_frame s (bytes_of l.text)) ls) (omega arith) (omega arith) h)
 
   -- the whole text

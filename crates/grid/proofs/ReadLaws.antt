@@ -105,8 +105,8 @@ module _ (grid : List ℕ) (x : ℕ) where
   sets_over = omega (arith, ap (nth grid) (add-zero x))
 
   -- task v of place x + i
-  pub sets_at : (i v c : ℕ) → i < 4 → v < 4 → c < 4 → ((k : ℕ) → k < 4 → nth grid (x + k) < 65536) → has (sets_at grid x) (4 * i + v) c ≡ has (nth grid (x + i)) v c
-  sets_at i v c li lv lc few = ap (λ (s : ℕ). has s (4 * i + v) c) sets_over ∙ at i li
+  pub sets_at_lem : (i v c : ℕ) → i < 4 → v < 4 → c < 4 → ((k : ℕ) → k < 4 → nth grid (x + k) < 65536) → has (sets_at grid x) (4 * i + v) c ≡ has (nth grid (x + i)) v c
+  sets_at_lem i v c li lv lc few = ap (λ (s : ℕ). has s (4 * i + v) c) sets_over ∙ at i li
     where
       w : ℕ → ℕ
       w k = nth grid (x + k)
@@ -234,10 +234,10 @@ record DueJob (grid l : List ℕ) (slot due : ℕ) : Type 0 where
   unsettled : settled_on grid l slot task ≡ false
 
 module _ (grid l : List ℕ) (slot : ℕ) where
-  due_from : (j v : ℕ) → j ≤ tasks_on grid - v → ends_on grid slot ≤ v → due_from grid l slot j v ≢ none_due → DueJob grid l slot (due_from grid l slot j v)
+  due_from_lem : (j v : ℕ) → j ≤ tasks_on grid - v → ends_on grid slot ≤ v → due_from grid l slot j v ≢ none_due → DueJob grid l slot (due_from grid l slot j v)
   unfolding due_from
-  due_from zero v lj lv x = absurd (x refl)
-  due_from (suc j) v lj lv x = go (settled_on grid l slot v) refl x (due_from j (suc v) (omega arith) (omega arith))
+  due_from_lem zero v lj lv x = absurd (x refl)
+  due_from_lem (suc j) v lj lv x = go (settled_on grid l slot v) refl x (due_from_lem j (suc v) (omega arith) (omega arith))
     where
       go : (b : Bool) → settled_on grid l slot v ≡ b → cond b (due_from grid l slot j (suc v)) (counter_on grid slot v) ≢ none_due
           → (due_from grid l slot j (suc v) ≢ none_due → DueJob grid l slot (due_from grid l slot j (suc v)))
@@ -247,7 +247,7 @@ module _ (grid l : List ℕ) (slot : ℕ) where
 
   first_due : first_due_on grid l slot ≢ none_due → DueJob grid l slot (first_due_on grid l slot)
   unfolding first_due_on
-  first_due x = due_from (tasks_on grid - ends_on grid slot) (ends_on grid slot) (omega arith) (omega arith) x
+  first_due x = due_from_lem (tasks_on grid - ends_on grid slot) (ends_on grid slot) (omega arith) (omega arith) x
 
   -- none is due: each is settled
   due_none : (j v w : ℕ) → j ≤ tasks_on grid - v → OnGrid grid slot → due_from grid l slot j v ≡ none_due → v ≤ w → w < v + j → settled_on grid l slot w ≡ true

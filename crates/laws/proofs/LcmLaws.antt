@@ -61,9 +61,9 @@ euclid_is (suc n) x (suc y) h =
     (λ k. g.0 (s.0 k), λ k. s.1 (g.1 k))
 
 -- so the function finds it
-pub gcd_of : (a b : ℕ) → IsGcd a b (gcd_of a b)
+pub gcd_of_lem : (a b : ℕ) → IsGcd a b (gcd_of a b)
 unfolding gcd_of
-gcd_of a b = euclid_is b a b (omega arith)
+gcd_of_lem a b = euclid_is b a b (omega arith)
 
 -- ---- least common multiples
 -- a / g * b is the least common multiple
@@ -95,9 +95,9 @@ unfolding IsLcm
 lcm_pos a b l h pa pb = pos_of_dvd_of_pos ((h (a * b)).0 (dvd-mul_right a b, dvd-mul_left b a)) (mul-pos pa pb)
 
 -- the function finds it
-pub lcm_of : (a b : ℕ) → 0 < a → IsLcm a b (lcm_of a b)
+pub lcm_of_lem : (a b : ℕ) → 0 < a → IsLcm a b (lcm_of a b)
 unfolding lcm_of
-lcm_of a b pos = lcm_is a b (gcd_of a b) (gcd_of a b) pos
+lcm_of_lem a b pos = lcm_is a b (gcd_of a b) (gcd_of_lem a b) pos
 
 -- of 0 and another number it is 0
 pub lcm_zero : (a b : ℕ) → a ≡ 0 → 0 ≡ lcm_of a b
@@ -120,12 +120,12 @@ lcms_more n p h l all more c = (
 )
 
 -- the function finds it, and it is not 0 if the numbers are not
-pub lcms_of : (n : ℕ) (p : ℕ → ℕ) → ((k : ℕ) → k < n → 0 < p k) → IsLcms n p (lcms_of n p) × (0 < lcms_of n p)
+pub lcms_of_lem : (n : ℕ) (p : ℕ → ℕ) → ((k : ℕ) → k < n → 0 < p k) → IsLcms n p (lcms_of n p) × (0 < lcms_of n p)
 unfolding lcms_of
-lcms_of zero p pos = (lcms_none p, omega arith)
-lcms_of (suc n) p pos =
-    let h = lcms_of n p (λ k l. pos k (omega arith)) in
-    let l = lcm_of (lcms_of n p) (p n) h.1 in
+lcms_of_lem zero p pos = (lcms_none p, omega arith)
+lcms_of_lem (suc n) p pos =
+    let h = lcms_of_lem n p (λ k l. pos k (omega arith)) in
+    let l = lcm_of_lem (lcms_of n p) (p n) h.1 in
     (lcms_more n p _ _ h.0 l, lcm_pos _ _ _ l h.1 (pos n (omega arith)))
 
 -- one turn of the loop that finds it
@@ -152,8 +152,8 @@ lcms_over n i p l c le h pos m = lcms_least i p l c h pos (λ k q. m k (omega ar
 pub lcms_mono : (n i : ℕ) (p : ℕ → ℕ) → ((k : ℕ) → k < n → 0 < p k) → i ≤ n → lcms_of i p ≤ lcms_of n p
 unfolding IsLcms
 lcms_mono n i p pos le =
-    let h = lcms_of n p pos in
-    lcms_over n i p _ _ le (lcms_of i p (λ k l. pos k (omega arith))).0 h.1 ((h.0 (lcms_of n p)).1 (dvd_refl (lcms_of n p)))
+    let h = lcms_of_lem n p pos in
+    lcms_over n i p _ _ le (lcms_of_lem i p (λ k l. pos k (omega arith))).0 h.1 ((h.0 (lcms_of n p)).1 (dvd_refl (lcms_of n p)))
 
 -- each number divides it
 pub lcms_divides : (n : ℕ) (p : ℕ → ℕ) (l k : ℕ) → IsLcms n p l → k < n → p k ∣ l

@@ -34,9 +34,9 @@ above low high x a b = sym (within_high low high x a) ∙ lt-leb x high b
 
 -- what begin answers, test by test
 module _ (n m : ℕ) where
-  pub no_task : n ≡ 0 → 1 ≡ count_refusal n m 0
+  pub no_task_lem : n ≡ 0 → 1 ≡ count_refusal n m 0
   unfolding unless
-  no_task e = rw (sym (within_low 1 16 n (omega arith)))
+  no_task_lem e = rw (sym (within_low 1 16 n (omega arith)))
 
   pub over_tasks : 16 < n → 1 ≡ count_refusal n m 0
   unfolding unless

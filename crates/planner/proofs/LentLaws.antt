@@ -7,7 +7,7 @@ use mathlib.Core.List.{List, [], ◌∷◌}
 use Rattle.tasks.specs.declared.Task.{Task}
 use Rattle.tasks.specs.declared.Soundness.TheVariants.{Refused as NotSound}
 use Rattle.tasks.specs.Task.{rows}
-use Rattle.tasks.proofs.AnswerLaws.{refused_answer}
+use Rattle.tasks.proofs.AnswerLaws.{refused_answer_lem}
 use Rattle.table.specs.Fault.{Checked, refused, check}
 use Rattle.rules.specs.Search.{Searched, search}
 use Rattle.lent.specs.declared.Lent.{Lent}
@@ -25,7 +25,7 @@ use Rattle.player.specs.Player.{record_or, check_refusal, record_of, first_shown
 module _ {m : ℕ} {ts : List Task} {r : Lent} (s : Scanned m ts r) (x : r.refusal ≢ 0) where
   -- the search reports the refusal and 0 tries, and leaves the buffer
   pub search_refused : (e b : ℕ) (buffer : List ℕ) → searched_as (refused_answer r.refusal) buffer ≡ search m ts e b buffer
-  search_refused e b buffer = list_refused m ts e b buffer r.refusal (refused_answer r.refusal) (NotSound r.refusal) (refused_answer m ts r.refusal x (scan_refused s x)) refl refl
+  search_refused e b buffer = list_refused m ts e b buffer r.refusal (refused_answer r.refusal) (NotSound r.refusal) (refused_answer_lem m ts r.refusal x (scan_refused s x)) refl refl
 
   -- the checker tells it
   pub checked_refused : (t : List ℕ) → checked_as (Refused r.refusal) ≡ check m ts t

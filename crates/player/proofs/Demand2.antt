@@ -134,18 +134,18 @@ module _ (ts : List Task) (m : ℕ) (t : List ℕ) (p : Player) (tick : ℕ → 
     left_at (suc s) l = (run.steps s l).1 ∙ ap₂ after_step (left_at s (omega arith)) (next_tick s l) ∙ moved_step made unspoilt (time_after tick s) (elapsed_at tick s) (in-time s l)
 
     -- and answers for its time
-    shown_at : (s : ℕ) → s < n → shown (suc s) ≡ record { verdict = 0; cells = cells_of (moved made (time_after tick (suc s))); missed = elapsed_at tick s - 1 }
+    shown_at_lem : (s : ℕ) → s < n → shown (suc s) ≡ record { verdict = 0; cells = cells_of (moved made (time_after tick (suc s))); missed = elapsed_at tick s - 1 }
     unfolding sum
-    shown_at s l = (run.steps s l).0 ∙ ap₂ stepped (left_at s (omega arith)) (next_tick s l) ∙ moved_answer made unspoilt (time_after tick s) (elapsed_at tick s) (in-time s l)
+    shown_at_lem s l = (run.steps s l).0 ∙ ap₂ stepped (left_at s (omega arith)) (next_tick s l) ∙ moved_answer made unspoilt (time_after tick s) (elapsed_at tick s) (in-time s l)
 
     accepted : (s : ℕ) → s ≤ n → (shown s).verdict ≡ 0
     accepted zero l = ap (λ a. a.verdict) start_shown
-    accepted (suc s) l = ap (λ a. a.verdict) (shown_at s l)
+    accepted (suc s) l = ap (λ a. a.verdict) (shown_at_lem s l)
 
     shows : (s : ℕ) → s ≤ n → (shown s).cells ≡ shown_at m ts t (time_after tick s)
     unfolding sum
     shows zero l = ap (λ a. a.cells) start_shown ∙ cells_at 0
-    shows (suc s) l = ap (λ a. a.cells) (shown_at s l) ∙ cells_at (time_after tick (suc s))
+    shows (suc s) l = ap (λ a. a.cells) (shown_at_lem s l) ∙ cells_at (time_after tick (suc s))
 
     -- missed slots are passed over
     pub keeps : Keeps m ts t tick n shown left
@@ -156,7 +156,7 @@ module _ (ts : List Task) (m : ℕ) (t : List ℕ) (p : Player) (tick : ℕ → 
       age_is = λ s l. ap (λ q. q.age) (left_at s l) ∙ ap (λ x. min x 1024) (zero-add (time_after tick s));
       shows = shows;
       first_missed = ap (λ a. a.missed) start_shown;
-      misses = λ s l. ap (λ a. a.missed) (shown_at s l);
+      misses = λ s l. ap (λ a. a.missed) (shown_at_lem s l);
     }
 
   module _ (each : (s : ℕ) → s < n → elapsed_at tick s ≡ 1) where

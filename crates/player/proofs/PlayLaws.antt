@@ -18,7 +18,7 @@ use Rattle.tasks.specs.Task.{rate, task}
 use Rattle.tasks.specs.Refusal.{table_length}
 use Rattle.tasks.specs.Window.{is_jobs, done_in, InWindow, Cyclic}
 use Rattle.tasks.specs.Instance.{instance_of, own_instance}
-use Rattle.tasks.proofs.WindowLaws.{work_at, open_window}
+use Rattle.tasks.proofs.WindowLaws.{work_at_lem, open_window}
 use Rattle.tasks.proofs.SoundLaws.{SoundList, length_whole, sound_cyclic}
 use Rattle.table.specs.Table.{share, done, Valid}
 use Rattle.clock.proofs.ShownLaws.{shown_own, shown_is, shown_beyond}
@@ -84,7 +84,7 @@ module _ {m : ℕ} {ts : List Task} (s : SoundList m ts) where
     plays_work K = omega (
       arith,
       sum_ext (task ts i).deadline.0 _ _ (λ u n. units_late ((task ts i).offset.0 + (K * (task ts i).period.0 + u)) (omega arith))
-          ∙ sym (work_at windows (task ts i).offset.0 K (units m ts f i))
+          ∙ sym (work_at_lem windows (task ts i).offset.0 K (units m ts f i))
           ∙ sym (done_work (table_length ts) m ts f i (K % (table_length ts / (task ts i).period.0))),
       v.full i (K % (table_length ts / (task ts i).period.0)) x l (mod-lt K windows.some_jobs),
     )

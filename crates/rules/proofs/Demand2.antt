@@ -22,7 +22,7 @@ use Rattle.rules.proofs.Skip.{quicker_right}
 use Rattle.rules.proofs.Plain.{clean_table, table_clean, plain_right}
 use Rattle.rules.proofs.Quick.{quick_same}
 use Rattle.rules.proofs.Only.{first_one}
-use Rattle.rules.proofs.Told.{over_take, over_drop, zeros_take, zeros_drop, search_told}
+use Rattle.rules.proofs.Told.{over_take, over_drop, zeros_take, zeros_drop, search_told_lem}
 
 -- ---- statements
 -- the walks of an instance
@@ -111,7 +111,7 @@ module _ (P : Instance) (b : ℕ) (buffer : List ℕ) where
 -- the search of every sound list, by either engine, with any limit, into a buffer that is long enough
 pub searches : (m : ℕ) (ts : List Task) (e b : ℕ) (buffer : List ℕ) → IsSound m ts → e ≤ 1 → cells (own_instance m ts) ≤ length buffer
     → Searches (own_instance m ts) (walked e (own_instance m ts)) b buffer (search m ts e b buffer)
-searches m ts e b buffer sound engine room = rw (search_told m ts e b buffer sound engine room)
+searches m ts e b buffer sound engine room = rw (search_told_lem m ts e b buffer sound engine room)
     (told_searches (own_instance m ts) b buffer (walked e (own_instance m ts)) ((walks (own_instance m ts) (own_regular m ts sound)).walked_right e))
 
 -- ---- one answer

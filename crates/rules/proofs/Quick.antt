@@ -52,9 +52,9 @@ twin_rates P a b t zero x l = absurd (x refl)
 twin_rates P a b t (suc i) x l = eqb→eq (P.rate (suc i) a) (P.rate (suc i) b) (all_at P.tasks _ t i l)
 
 -- the positive rates of a task with even rates are the same
-even_rates : (P : Instance) (i : ℕ) → T (even_rates P i) → (a b : ℕ) → a < P.cores → b < P.cores → 0 < P.rate i a → 0 < P.rate i b → P.rate i a ≡ P.rate i b
+even_rates_lem : (P : Instance) (i : ℕ) → T (even_rates P i) → (a b : ℕ) → a < P.cores → b < P.cores → 0 < P.rate i a → 0 < P.rate i b → P.rate i a ≡ P.rate i b
 unfolding even_rates
-even_rates P i t a b la lb ra rb = eqb→eq (P.rate i a) (P.rate i b)
+even_rates_lem P i t a b la lb ra rb = eqb→eq (P.rate i a) (P.rate i b)
     (imp_use (ltb 0 (P.rate i b)) (eqb (P.rate i a) (P.rate i b))
     (imp_use (ltb 0 (P.rate i a)) _ (all_at P.cores _ (all_at P.cores _ t a la) b lb) (lt→ltb 0 (P.rate i a) ra)) (lt→ltb 0 (P.rate i b) rb))
 
@@ -95,7 +95,7 @@ module _ (P : Instance) (regular : Regular P) (f : ℕ → ℕ) (v : Valid P f) 
         open_there = h.1.0;
         rated = ltb→lt 0 (P.rate i (core_of P c)) h.1.1.0;
         same_job = jb;
-        same_rate = even_rates P i e (core_of P b) (core_of P c) (mod-lt b regular.some_core) (mod-lt c regular.some_core)
+        same_rate = even_rates_lem P i e (core_of P b) (core_of P c) (mod-lt b regular.some_core) (mod-lt c regular.some_core)
             (rw fb at (v.rated b lb (omega arith))) (ltb→lt 0 (P.rate i (core_of P c)) h.1.1.0);
       })
 

@@ -34,10 +34,10 @@ pub zeros_drop : (n : ℕ) (t : List ℕ) → drop n (over (replicate n 0) t) �
 zeros_drop n t = over_drop n (replicate n 0) t (length-replicate n 0)
 
 -- where nothing is refused the search tells its walk under the limit
-pub search_told : (m : ℕ) (ts : List Task) (e b : ℕ) (buffer : List ℕ) → refusal m ts ≡ 0 → e ≤ 1 → cells (own_instance m ts) ≤ length buffer
+pub search_told_lem : (m : ℕ) (ts : List Task) (e b : ℕ) (buffer : List ℕ) → refusal m ts ≡ 0 → e ≤ 1 → cells (own_instance m ts) ≤ length buffer
     → search m ts e b buffer ≡ search_told (cells (own_instance m ts)) buffer (limited b (walked e (own_instance m ts)))
 unfolding search search_refusal unless or_next
-search_told m ts e b buffer sound engine room = rw (sound, le-leb e 1 engine, le-leb (cells (own_instance m ts)) (length buffer) room)
+search_told_lem m ts e b buffer sound engine room = rw (sound, le-leb e 1 engine, le-leb (cells (own_instance m ts)) (length buffer) room)
 
 -- a refusal that is not 0 is told with 0 tries, and the buffer is as it was
 pub refused_told : (m : ℕ) (ts : List Task) (e b : ℕ) (buffer : List ℕ) (k : ℕ) → search_refusal m ts e (length buffer) ≡ k → k ≢ 0

@@ -17,9 +17,9 @@ use Rattle.tasks.specs.declared.Soundness.TheVariants.{Sound, Refused}
 use Rattle.tasks.specs.Refusal.{unless, table_length, IsSound, tested_as, tested}
 use Rattle.tasks.specs.Instance.{instance_of}
 use Rattle.tasks.proofs.SoundLaws.{sound_list}
-use Rattle.tasks.proofs.AnswerLaws.{or_first, or_next, tested_sound, tested_refused}
+use Rattle.tasks.proofs.AnswerLaws.{or_first, or_next_lem, tested_sound, tested_refused}
 use Rattle.rules.specs.Search.{Searched, search_told_unless, search_refusal, search}
-use Rattle.rules.proofs.Told.{search_told}
+use Rattle.rules.proofs.Told.{search_told_lem}
 use Rattle.search.specs.declared.Answer.{Answer}
 use Rattle.search.specs.Told.{refused_answer, call_refusal, walk_told, searched_as}
 
@@ -74,12 +74,12 @@ module _ (m : ℕ) (ts : List Task) (e b : ℕ) (buffer : List ℕ) where
     -- of the engine or of the buffer
     pub call_refused : (r : Answer) → k ≢ 0 → r ≡ refused_answer k → searched_as r buffer ≡ search m ts e b buffer
     unfolding search_refusal call_refusal instance_of
-    call_refused r x er = let told = tested_sound m ts s es L el in refused_by k r er x (or_next _ _ _ _ refl told.0 (rw (← told.1) ek))
+    call_refused r x er = let told = tested_sound m ts s es L el in refused_by k r er x (or_next_lem _ _ _ _ refl told.0 (rw (← told.1) ek))
 
     -- no refusal
-    pub walk_answer : (x : Searched) → k ≡ 0 → x ≡ walk_told m ts e b buffer → x ≡ search m ts e b buffer
+    pub walk_answer_lem : (x : Searched) → k ≡ 0 → x ≡ walk_told m ts e b buffer → x ≡ search m ts e b buffer
     unfolding walk_told instance_of
-    walk_answer x z h =
+    walk_answer_lem x z h =
         let told = tested_sound m ts s es L el in
         let may = not_refused e (length buffer) (L.0 * m) k ek z in
-        h ∙ sym (search_told m ts e b buffer told.0 may.0 (omega (arith, may.1, ap (λ n. n * m) told.1)))
+        h ∙ sym (search_told_lem m ts e b buffer told.0 may.0 (omega (arith, may.1, ap (λ n. n * m) told.1)))

@@ -212,10 +212,10 @@ module _ (m : ℕ) (list : TaskList) (e b L : ℕ) (sound : IsSound m (rows list
             (limited_used (full - b) b (walked e (own_instance m (rows list))))
 
     -- it tells what the engine's walk does under the limit
-    pub walk_told : (buffer : List ℕ) → L * m ≤ length buffer → (x : Answer) → ((e : End) (k : ℕ) → r ≡ walk_number e k → k < 4294967296 → x ≡ walk_answer e k (full - b))
+    pub walk_told_lem : (buffer : List ℕ) → L * m ≤ length buffer → (x : Answer) → ((e : End) (k : ℕ) → r ≡ walk_number e k → k < 4294967296 → x ≡ walk_answer e k (full - b))
         → (buffer' : List ℕ) → buffer' ≡ filled buffer 0 (L * m) (cell_left (eqb x.verdict 0) t) → searched_as x buffer' ≡ walk_told m (rows list) e b buffer
     unfolding walk_told instance_of
-    walk_told buffer room x tells buffer' e' =
+    walk_told_lem buffer room x tells buffer' e' =
         let ex = tells end.end end.tries ran.leaves.answer (omega (arith, ran.leaves.most)) in
         ap₂ searched_as ex (e' ∙ ap₂ (λ x t. filled buffer 0 (L * m) (cell_left (eqb x.verdict 0) t)) ex ran.leaves.table)
         ∙ told_end end.end (L * m) (full - b) end.tries end.table buffer (rw shows.long (rw (length-replicate {A = ℕ} 4096 0) few)) room

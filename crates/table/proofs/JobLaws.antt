@@ -9,8 +9,8 @@ use Rattle.tasks.proofs.WindowLaws.{highest_lt, highest_ge}
 
 module _ (P : Instance) (i : ℕ) where
   -- a slot where the task is open is one of its job's
-  pub job_slot : (k t : ℕ) → T (P.opens i t) → P.job i t ≡ k → T (job_slot P i k t)
-  job_slot k t o e = make_both (P.opens i t) (eqb (P.job i t) k) o (rw e (eqb_refl k))
+  pub job_slot_lem : (k t : ℕ) → T (P.opens i t) → P.job i t ≡ k → T (job_slot P i k t)
+  job_slot_lem k t o e = make_both (P.opens i t) (eqb (P.job i t) k) o (rw e (eqb_refl k))
 
   -- and the other way
   pub slot_job : (k t : ℕ) → T (job_slot P i k t) → T (P.opens i t) × (P.job i t ≡ k)

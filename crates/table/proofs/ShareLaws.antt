@@ -11,7 +11,7 @@ use Rattle.laws.proofs.SumLaws.{gate_yes, gate_no}
 use Rattle.laws.proofs.TestLaws.{both, make_both}
 use Rattle.tasks.specs.Instance.{Instance, job_slot}
 use Rattle.table.specs.Table.{slot_of, core_of, of_job, share}
-use Rattle.table.proofs.JobLaws.{job_slot}
+use Rattle.table.proofs.JobLaws.{job_slot_lem}
 
 -- a gate that lets something through has passed its test
 pub gate_some : (b : Bool) (x : ℕ) → 0 < gate b x → T b
@@ -21,8 +21,8 @@ gate_some false x l = omega arith
 
 module _ (P : Instance) (i k c : ℕ) where
   -- a value of the job is its task, in one of its slots
-  pub of_job : (v : ℕ) → T (of_job P i k c v) → (v ≡ i) × T (job_slot P i k (slot_of P c))
-  of_job v t = let b = both (eqb v i) (job_slot P i k (slot_of P c)) t in (eqb→eq v i b.0, b.1)
+  pub of_job_lem : (v : ℕ) → T (of_job P i k c v) → (v ≡ i) × T (job_slot P i k (slot_of P c))
+  of_job_lem v t = let b = both (eqb v i) (job_slot P i k (slot_of P c)) t in (eqb→eq v i b.0, b.1)
 
   -- and the task there is of the job
   pub is_of_job : (v : ℕ) → v ≡ i → T (job_slot P i k (slot_of P c)) → T (of_job P i k c v)
@@ -31,7 +31,7 @@ module _ (P : Instance) (i k c : ℕ) where
   -- a value that is not of the job does nothing
   pub share_none : (v : ℕ) → (v ≡ i → T (job_slot P i k (slot_of P c)) → ⊥) → share P i k c v ≡ 0
   unfolding share
-  share_none v h = gate_no (of_job P i k c v) (P.rate i (core_of P c)) (λ t. let b = of_job v t in h b.0 b.1)
+  share_none v h = gate_no (of_job P i k c v) (P.rate i (core_of P c)) (λ t. let b = of_job_lem v t in h b.0 b.1)
 
   -- the task does its rate in the job's slots
   pub share_job : T (job_slot P i k (slot_of P c)) → share P i k c i ≡ P.rate i (core_of P c)
@@ -45,8 +45,8 @@ module _ (P : Instance) (i k c : ℕ) where
   -- a value that does something is of the job
   pub share_some : (v : ℕ) → 0 < share P i k c v → (v ≡ i) × T (job_slot P i k (slot_of P c))
   unfolding share
-  share_some v l = of_job v (gate_some (of_job P i k c v) (P.rate i (core_of P c)) l)
+  share_some v l = of_job_lem v (gate_some (of_job P i k c v) (P.rate i (core_of P c)) l)
 
 -- an open task does its rate for the job of its slot
 pub share_own : (P : Instance) (i c : ℕ) → T (P.opens i (slot_of P c)) → share P i (P.job i (slot_of P c)) c i ≡ P.rate i (core_of P c)
-share_own P i c o = share_job P i (P.job i (slot_of P c)) c (job_slot P i (P.job i (slot_of P c)) (slot_of P c) o refl)
+share_own P i c o = share_job P i (P.job i (slot_of P c)) c (job_slot_lem P i (P.job i (slot_of P c)) (slot_of P c) o refl)

@@ -11,7 +11,7 @@ use borrow.Author.Tests.{eq-eqb, ne_eqb}
 use Rattle.laws.proofs.SumLaws.{sum_stays, lt_or_ge, sum_change, sum_change_two}
 use Rattle.tasks.specs.Instance.{Instance}
 use Rattle.table.specs.Table.{cells, slot_of, core_of, share, done, Valid}
-use Rattle.table.proofs.JobLaws.{job_slot, slot_job}
+use Rattle.table.proofs.JobLaws.{job_slot_lem, slot_job}
 use Rattle.table.proofs.ShareLaws.{share_job, share_other, share_none}
 use Rattle.table.proofs.TableLaws.{slot_le, done_more, done_same}
 
@@ -65,8 +65,8 @@ module _ (P : Instance) where
   -- a task that moves does in the new cell, for each of its jobs, what it did in the old
   task_moves : (i k a b : ℕ) → T (P.opens i (slot_of P a)) → Moves P i a b → share P i k a i ≡ share P i k b i
   task_moves i k a b o m = elim (ℕ_discrete (P.job i (slot_of P a)) k) [
-    | yes e ↦ share_job P i k a (job_slot P i k (slot_of P a) o e) ∙ m.same_rate
-        ∙ sym (share_job P i k b (job_slot P i k (slot_of P b) m.open_there (sym m.same_job ∙ e)))
+    | yes e ↦ share_job P i k a (job_slot_lem P i k (slot_of P a) o e) ∙ m.same_rate
+        ∙ sym (share_job P i k b (job_slot_lem P i k (slot_of P b) m.open_there (sym m.same_job ∙ e)))
     | no x ↦ share_none P i k a i (λ _ t. x (slot_job P i k (slot_of P a) t).1)
         ∙ sym (share_none P i k b i (λ _ t. x (m.same_job ∙ (slot_job P i k (slot_of P b) t).1)))
   ]
@@ -199,11 +199,11 @@ module _ (P : Instance) where
         })
         (λ d l x y t e. sym e ∙ v.once d b l lb y (t ∙ s) e)
         (λ d l x y t e. sym e ∙ v.once d a l la y (t ∙ sym s) e)
-        (λ n d l m e. n (v.once a d la (omega arith) (λ q. omega arith) (sym (in_slot d l m)) (sym e)))
-        (λ d l m n e _. n (v.once d b (omega arith) lb (λ q. omega arith) (in_slot d l (omega arith) ∙ s) e))
+        (λ n d l m e. n (v.once a d la (omega arith) (λ q. omega arith) (sym (in_slot_lem d l m)) (sym e)))
+        (λ d l m n e _. n (v.once d b (omega arith) lb (λ q. omega arith) (in_slot_lem d l (omega arith) ∙ s) e))
       where
-        in_slot : (d : ℕ) → a < d → d ≤ b → slot_of P d ≡ slot_of P a
-        in_slot d l m = omega (arith, slot_le P some_core a d (omega arith), slot_le P some_core d b m, s)
+        in_slot_lem : (d : ℕ) → a < d → d ≤ b → slot_of P d ≡ slot_of P a
+        in_slot_lem d l m = omega (arith, slot_le P some_core a d (omega arith), slot_le P some_core d b m, s)
 
     -- an idle cell a, and the next cell b of a job that may stand in cell a at the same rate
     pub move_valid : f a ≡ 0 → Moves P (f b) b a → Alone P f a b → Next P f a b → Valid P (swapped a b f)

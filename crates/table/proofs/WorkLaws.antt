@@ -15,7 +15,7 @@ use Rattle.tasks.specs.Instance.{Instance, job_slot}
 use Rattle.tasks.proofs.AnswerLaws.{unless_yes, unless_no}
 use Rattle.table.specs.Table.{slot_of, core_of, of_job, share, done}
 use Rattle.table.specs.Fault.{all_needed, work_kind}
-use Rattle.table.proofs.ShareLaws.{gate_some, of_job, is_of_job}
+use Rattle.table.proofs.ShareLaws.{gate_some, of_job_lem, is_of_job}
 
 module _ (C d : ℕ) (needed : Bool) where
   -- too little
@@ -34,12 +34,12 @@ module _ (C d : ℕ) (needed : Bool) where
   work_met l y = unless_yes _ 5 _ (le→leb C d l) ∙ unless_yes _ 6 0 y
 
 -- of the first c cells those of the job stand where it is not complete
-pub all_needed : (P : Instance) (f : ℕ → ℕ) (c i k : ℕ)
+pub all_needed_lem : (P : Instance) (f : ℕ → ℕ) (c i k : ℕ)
     → T (all_needed P c f i k) ↔ ((d : ℕ) → d < c → f d ≡ i → T (job_slot P i k (slot_of P d)) → done P d f i k < P.work i)
 unfolding all_needed
-all_needed P f c i k = (
+all_needed_lem P f c i k = (
   λ t d l e s. ltb→lt _ _ (imp_use (of_job P i k d (f d)) (ltb (done P d f i k) (P.work i)) (all_at c _ t d l) (is_of_job P i k d (f d) e s)),
-  λ h. at_all c _ (λ d l. imp_make (of_job P i k d (f d)) (ltb (done P d f i k) (P.work i)) (λ t. let b = of_job P i k d (f d) t in lt→ltb _ _ (h d l b.0 b.1))),
+  λ h. at_all c _ (λ d l. imp_make (of_job P i k d (f d)) (ltb (done P d f i k) (P.work i)) (λ t. let b = of_job_lem P i k d (f d) t in lt→ltb _ _ (h d l b.0 b.1))),
 )
 
 -- or one of them does not
@@ -49,7 +49,7 @@ unfolding all_needed
 not_needed P f c i k n =
     let d = all_fails c (λ d. imp (of_job P i k d (f d)) (ltb (done P d f i k) (P.work i))) n in
     let h = imp_fails (of_job P i k d.0 (f d.0)) (ltb (done P d.0 f i k) (P.work i)) d.2 in
-    let b = of_job P i k d.0 (f d.0) h.0 in
+    let b = of_job_lem P i k d.0 (f d.0) h.0 in
     (d.0, d.1, b.0, b.1, ⊎_elim (λ l. absurd (h.1 (lt→ltb _ _ l))) (λ l. l) (lt_or_ge (done P d.0 f i k) (P.work i)))
 
 -- a job all of whose cells were needed has done no more than its work and one rate

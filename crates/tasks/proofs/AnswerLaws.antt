@@ -91,9 +91,9 @@ unfolding or_next
 or_first r y next e x = e ∙ sym (ap (λ b. cond b next y) (ne_eqb y 0 (λ z. x (e ∙ z))))
 
 -- there was none, and x is what comes after
-pub or_next : (r y x next : ℕ) → r ≡ y → r ≡ 0 → x ≡ next → x ≡ or_next y next
+pub or_next_lem : (r y x next : ℕ) → r ≡ y → r ≡ 0 → x ≡ next → x ≡ or_next y next
 unfolding or_next
-or_next r y x next e z h = h ∙ sym (ap (λ b. cond b next y) (eq-eqb y 0 (sym e ∙ z)))
+or_next_lem r y x next e z h = h ∙ sym (ap (λ b. cond b next y) (eq-eqb y 0 (sym e ∙ z)))
 
 module _ (m : ℕ) (l : TaskList) where
   -- the refusal of the task at place i, none before it being refused
@@ -113,14 +113,14 @@ module _ (m : ℕ) (l : TaskList) where
 
 -- ---- lengths
 -- the period at place i of a list as numbers
-period_at : (l : TaskList) (i : ℕ) → i < l.n → nth l.period i ≡ period_at (rows l) i
+period_at_lem : (l : TaskList) (i : ℕ) → i < l.n → nth l.period i ≡ period_at (rows l) i
 unfolding task_at
-period_at l i h = sym (ap (λ τ. τ.period.0) (rows_task l i h))
+period_at_lem l i h = sym (ap (λ τ. τ.period.0) (rows_task l i h))
 
 -- one turn of the loop: r is the least common multiple of h, that of the periods before place i, and the period there
 pub length_next : (l : TaskList) (i h r : ℕ) → i < l.n → h ≡ lcms_of i (period_at (rows l)) → r ≡ lcm_of h (nth l.period i)
     → r ≡ lcms_of (i + 1) (period_at (rows l))
-length_next l i h r b e f = lcms_next i _ h r e (f ∙ ap (lcm_of h) (period_at l i b))
+length_next l i h r b e f = lcms_next i _ h r e (f ∙ ap (lcm_of h) (period_at_lem l i b))
 
 -- all periods passed, and the length fits
 pub length_done : (l : TaskList) (i h : ℕ) → i ≤ l.n → l.n ≤ i → h ≡ lcms_of i (period_at (rows l)) → h ≤ 1024
@@ -175,9 +175,9 @@ unfolding tested_as tested
 sound_answer m ts h e l = ap sound l ∙ ap (λ k. tested_if k (table_length ts)) e
 
 -- one that is
-pub refused_answer : (m : ℕ) (ts : List Task) (r : ℕ) → r ≢ 0 → r ≡ refusal m ts → tested_as (Refused r) ≡ tested m ts
+pub refused_answer_lem : (m : ℕ) (ts : List Task) (r : ℕ) → r ≢ 0 → r ≡ refusal m ts → tested_as (Refused r) ≡ tested m ts
 unfolding tested_as tested
-refused_answer m ts r x e = go r x ∙ ap (λ k. tested_if k (table_length ts)) e
+refused_answer_lem m ts r x e = go r x ∙ ap (λ k. tested_if k (table_length ts)) e
   where
     go : (r : ℕ) → r ≢ 0 → refused r ≡ tested_if r (table_length ts)
     go zero x = absurd (x refl)

@@ -13,7 +13,7 @@ use Rattle.laws.specs.Lists.{nth}
 use Rattle.laws.specs.Lcm.{IsLcms}
 use Rattle.laws.proofs.ListLaws.{tab_length, tab_at, first_zero}
 use Rattle.laws.proofs.TestLaws.{all_at}
-use Rattle.laws.proofs.LcmLaws.{lcms_of, lcms_divides, dvd_whole}
+use Rattle.laws.proofs.LcmLaws.{lcms_of_lem, lcms_divides, dvd_whole}
 use Rattle.tasks.specs.declared.Rates.{Rates}
 use Rattle.tasks.specs.declared.Task.{Task}
 use Rattle.tasks.specs.declared.TaskList.{TaskList}
@@ -130,7 +130,7 @@ sound_list m ts e =
     let a = unless_none _ _ _ (omega arith) e in
     let b = unless_none _ _ _ (omega arith) a.1 in
     let c = next_none _ _ b.1 in
-    let h = lcms_of (length ts) (period_at ts) (λ k l. (list_range m ts c.0 (suc k) (omega arith) l).period_pos) in
+    let h = lcms_of_lem (length ts) (period_at ts) (λ k l. (list_range m ts c.0 (suc k) (omega arith) l).period_pos) in
     record {
       some_task = (within_is _ _ _ a.0).0;
       few_tasks = (within_is _ _ _ a.0).1;

@@ -61,9 +61,9 @@ gate_both true b x = refl
 gate_both false b x = refl
 
 -- a slot is one of job k's exactly if it is open, and of that number
-pub is_jobs : (L O D T k t : ℕ) → Passes (is_jobs L O D T k t) ↔ (IsOpen L O D T t × (job_at L O T t ≡ k))
+pub is_jobs_lem : (L O D T k t : ℕ) → Passes (is_jobs L O D T k t) ↔ (IsOpen L O D T t × (job_at L O T t ≡ k))
 unfolding is_jobs
-is_jobs L O D T k t = (
+is_jobs_lem L O D T k t = (
   λ h. let p = (both (is_open L O D T t) (eqb (job_at L O T t) k)).0 h in (ltb→lt _ D p.0, eqb→eq _ k p.1),
   λ h. (both (is_open L O D T t) (eqb (job_at L O T t) k)).1 (lt→ltb _ D h.0, rw h.1 (eqb_refl k)),
 )
@@ -193,8 +193,8 @@ module _ {L D T q : ℕ} (w : Cyclic L D T q) (O : ℕ) where
       term x l = during_is L O D T k ((O + x) % L) _ ∙ cc (place_after L O x (pos_L w), mod-eq_of_lt l, div-add-mod' x T)
 
   -- the same for a time in the K-th window, counted from the start
-  pub work_at : (K : ℕ) (g : ℕ → ℕ) → done_in L O D T (K % q) g ≡ sum D (λ u. g ((O + (K * T + u)) % L))
-  work_at K g =
+  pub work_at_lem : (K : ℕ) (g : ℕ → ℕ) → done_in L O D T (K % q) g ≡ sum D (λ u. g ((O + (K * T + u)) % L))
+  work_at_lem K g =
       work_window (K % q) g (mod-lt K w.some_jobs)
       ∙ sum_ext D (λ u. g ((O + (K % q * T + u)) % L)) (λ u. g ((O + (K * T + u)) % L)) (λ u l. ap g (sym (slot_again K u)))
 
@@ -202,11 +202,11 @@ module _ {L D T q : ℕ} (w : Cyclic L D T q) (O : ℕ) where
   window_slot : (k u : ℕ) → k < q → u < D → Passes (is_jobs L O D T k ((O + (k * T + u)) % L))
   window_slot k u h l =
       let r : u < T = omega arith in
-      (is_jobs L O D T k _).1 (omega (arith, after_mod (k * T + u), digits_mod k r), after_div (k * T + u) ∙ ap (λ x. x % q) (digits_div k r) ∙ mod-eq_of_lt h)
+      (is_jobs_lem L O D T k _).1 (omega (arith, after_mod (k * T + u), digits_mod k r), after_div (k * T + u) ∙ ap (λ x. x % q) (digits_div k r) ∙ mod-eq_of_lt h)
 
   -- every job has a slot
-  pub job_slot : (k : ℕ) → k < q → (t : ℕ) × (t < L) × Passes (is_jobs L O D T k t)
-  job_slot k h = ((O + (k * T + 0)) % L, mod-lt _ (pos_L w), window_slot k 0 h w.some_slots)
+  pub job_slot_lem : (k : ℕ) → k < q → (t : ℕ) × (t < L) × Passes (is_jobs L O D T k t)
+  job_slot_lem k h = ((O + (k * T + 0)) % L, mod-lt _ (pos_L w), window_slot k 0 h w.some_slots)
 
   -- a window's slot, from its first on
   pub first_slot : (k u : ℕ) → (O + (k * T + u)) % L ≡ ((O + k * T) % L + u) % L

@@ -110,12 +110,12 @@ module _ {P : Instance} (small : Small P) (grid : List ℕ) {first slot core : �
       ∙ ap (λ b. has sets v core && b) (and_true _ true refl)
 
   -- whether idle is tried
-  pub idle_tried : (e : ℕ) → GridFor P e grid → ((d : ℕ) → d < first + core → nth t d ≤ P.tasks)
+  pub idle_tried_lem : (e : ℕ) → GridFor P e grid → ((d : ℕ) → d < first + core → nth t d ≤ P.tasks)
       → (rule_of e P).tried (take (first + core) t) 0 ≡ not (bars_idle grid sets core)
   unfolding quickly permitted rule_a idle_tried
-  idle_tried zero ready known = sym (ap not (bars_is small ready ef ls lc holds)
+  idle_tried_lem zero ready known = sym (ap not (bars_is small ready ef ls lc holds)
       ∙ ap (λ b. not (not b)) (all_true P.tasks _ (λ v lv. imp_true (has sets v core))))
-  idle_tried (suc e) ready known = prefix_quickly P (first + core) t room 0
+  idle_tried_lem (suc e) ready known = prefix_quickly P (first + core) t room 0
       ∙ ap₂ (λ a b. true && (a && (b && true))) (sym evens) (idle_ranked P (first + core) (nth t) known)
       ∙ and_true _ true refl
     where

@@ -32,7 +32,7 @@ use Rattle.grid.specs.GridFor.{Small, GridFor, Lefts}
 use Rattle.walk.proofs.GiveBackLaws.{found_apart, stopped_apart, given_back, GivesBack, after_gives, walk_gives}
 use Rattle.walk.proofs.TurnLaws.{ended_stays, skip, stop, tried, back}
 use Rattle.grid.proofs.GridForLaws.{Sets, sets_same, all_settled_is, settled_within, open_tells, lefts_idle, lefts_put, sets_idle, sets_put, sets_start}
-use Rattle.walk.proofs.ObeyLaws.{cost_one, goes_prefix, task_tried, idle_tried}
+use Rattle.walk.proofs.ObeyLaws.{cost_one, goes_prefix, task_tried, idle_tried_lem}
 
 -- what an end tells from cell c on, of n cells
 unfoldable pub told_at : End → ℕ → ℕ → List ℕ → ℕ → Outcome
@@ -342,7 +342,7 @@ module _ {P : Instance} (small : Small P) (e b : ℕ) (grid : List ℕ) (ready :
     values_tell : (j v : ℕ) (t : List ℕ) (u : ℕ) → v + j ≡ P.tasks → take (first + core) t ≡ take (first + core) t₀ → length t ≡ length t₀ → u ≤ b → Tells j v t u
     unfolding Tells try_from
     values_tell zero v t u ev et el lu = idle_shows t u et el
-        (idle_tried small grid stands.first_is stands.slot_in stands.core_in t₀ (omega (arith, room)) stands.holds e ready stands.known) lu
+        (idle_tried_lem small grid stands.first_is stands.slot_in stands.core_in t₀ (omega (arith, room)) stands.holds e ready stands.known) lu
     values_tell (suc j) v t u ev et el lu = one_task j v (omega arith) t u et el lu (λ t' u'. values_tell j (suc v) t' u' (omega arith))
 
     -- the whole cell

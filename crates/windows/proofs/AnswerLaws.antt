@@ -15,7 +15,7 @@ use Rattle.tasks.specs.declared.Task.{Task}
 use Rattle.tasks.specs.Task.{task}
 use Rattle.tasks.specs.Refusal.{table_length}
 use Rattle.tasks.specs.Window.{place, is_open, job_at, last_slot, to_come}
-use Rattle.tasks.proofs.WindowLaws.{is_jobs}
+use Rattle.tasks.proofs.WindowLaws.{is_jobs_lem}
 use Rattle.tasks.proofs.SoundLaws.{SoundList, length_whole, sound_cyclic}
 use Rattle.tasks.proofs.ComingLaws.{coming_is, last_none}
 use Rattle.windows.specs.declared.InSlot.{InSlot}
@@ -78,5 +78,5 @@ module _ (L t : ℕ) (τ : Task) (r : InSlot) (e : r ≡ in_slot L τ t) where
   pub told_last : t < L → r.opens ≡ true → (last_slot L τ.offset.0 τ.deadline.0 τ.period.0 r.job ≡ t) ↔ (r.coming.0 ≡ 0)
   unfolding gate
   told_last there o =
-      let its = (is_jobs L τ.offset.0 τ.deadline.0 τ.period.0 r.job t).1 (ltb-true _ _ (sym told_opens ∙ o), sym told_job) in
+      let its = (is_jobs_lem L τ.offset.0 τ.deadline.0 τ.period.0 r.job t).1 (ltb-true _ _ (sym told_opens ∙ o), sym told_job) in
       rw (told_coming, o) (last_none L τ.offset.0 τ.deadline.0 τ.period.0 r.job t there its)

@@ -48,7 +48,7 @@ use Rattle.planner.proofs.plan.Symbol.{name as #planner·plan}
 use Rattle.planner.proofs.plan.Met as plan_thm
 use Rattle.exports.specs.Packed.{with_verdict, SearchNumber}
 use Rattle.exports.proofs.CallLaws.{ContractOf, calls_valued, calls_plain}
-use Rattle.exports.proofs.NarrowLaws.{search_told}
+use Rattle.exports.proofs.NarrowLaws.{search_told_lem}
 use Rattle.exports.proofs.NarrowCall.{Narrow, calls_narrow}
 use Rattle.exports.proofs.narrow.Symbol as narrow_def
 use Rattle.exports.proofs.narrow.Symbol.{name as #exports·narrow}
@@ -161,7 +161,7 @@ module _ {M : Type 1} {𝓤 : Ura M} (𝓛 : Logic 𝓤) (at_mem : Memory → SP
         returns ! (look ! 26 refl) $ forget ! 6 refl $ forget ! 8 refl $ forget ! 10 refl $ forget ! 12 refl $ forget ! 14 refl $ forget ! 16 refl $ forget ! 18 refl $ forget ! 20 refl $ forget ! 22 refl $ forget ! 24 refl $ forget ! 26 refl $
         move ! (26 ∷ 27 ∷ []) $ free1 ! $ move ! (24 ∷ 25 ∷ []) $ free1 ! $ move ! (22 ∷ 23 ∷ []) $ free1 ! $ move ! (20 ∷ 21 ∷ []) $ free1 ! $ move ! (18 ∷ 19 ∷ []) $ free1 ! $ move ! (16 ∷ 17 ∷ []) $ free1 ! $
         move ! (14 ∷ 15 ∷ []) $ free1 ! $ move ! (12 ∷ 13 ∷ []) $ free1 ! $ move ! (10 ∷ 11 ∷ []) $ free1 ! $ move ! (8 ∷ 9 ∷ []) $ free1 ! $ move ! (6 ∷ 7 ∷ []) $ free1 ! $ free0 ! $
-        keep ! (3 ∷ 1 ∷ 4 ∷ 0 ∷ []) $ by ! (exits k _ ws.1.1.1.1.0 (search_told x.now cores engine limit y.now ws.1.1.1.1.0 r is_m is-e is is-k) l)))))))))))))))))
+        keep ! (3 ∷ 1 ∷ 4 ∷ 0 ∷ []) $ by ! (exits k _ ws.1.1.1.1.0 (search_told_lem x.now cores engine limit y.now ws.1.1.1.1.0 r is_m is-e is is-k) l)))))))))))))))))
 
 module _ {M : Type 1} {𝓤 : Ura M} (𝓛 : Logic 𝓤) (at_mem : Memory → SProp 𝓤) (run : Routine → Fun 𝓤) (𝓣 : Tables 𝓤 𝓛.H)
     (known-narrow : Triple 𝓤 (𝓣.C #exports·narrow) (Narrow 𝓛 at_mem run)) (known-plan : Triple 𝓤 (𝓣.C #planner·plan) (Plan 𝓛 at_mem run)) (known-tell : Triple 𝓤 (𝓣.C #exports·tell-search) (Tell 𝓛 at_mem run)) where

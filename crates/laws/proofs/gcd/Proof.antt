@@ -3,7 +3,7 @@
 use native.Mathlib.Omega.{arith}
 use native.Mathlib.Nat.{mod-lt}
 use Rattle.laws.specs.Lcm.{SameDivisors}
-use Rattle.laws.proofs.LcmLaws.{same_start, same_step, same_end, gcd_one, gcd_of}
+use Rattle.laws.proofs.LcmLaws.{same_start, same_step, same_end, gcd_one, gcd_of_lem}
 use Rattle.laws.proofs.gcd.Statement.{statement}
 use Rattle.laws.proofs.gcd.Tie as tie
 
@@ -26,7 +26,7 @@ loop-again : tie.Need-loop-preserved invariant-loop decreases-loop
 loop-again c = same_step _ _ c.before.loop.x c.before.loop.y c.before.loop.invariant
 
 returns : tie.Need-returns invariant-loop decreases-loop
-returns c = gcd_one _ _ _ _ (same_end _ _ c.before.loop.x c.before.loop.y (omega arith) c.before.loop.invariant) (gcd_of _ _)
+returns c = gcd_one _ _ _ _ (same_end _ _ c.before.loop.x c.before.loop.y (omega arith) c.before.loop.invariant) (gcd_of_lem _ _)
 
 pub gcd-spec : {M : Type 1} → statement M
 gcd-spec = tie.close (tie.spec invariant-loop decreases-loop loop-holds rem-t loop-less loop-again returns)

@@ -7,7 +7,7 @@ use native.Mathlib.Omega.{arith}
 use native.Mathlib.Nat.{lt_of_le_of_lt, mul-le-mul, div-le_self}
 use lib.Dec.{lit<}
 use Rattle.laws.specs.Lcm.{lcm_of}
-use Rattle.laws.proofs.LcmLaws.{gcd_pos, gcd_of, lcm_zero}
+use Rattle.laws.proofs.LcmLaws.{gcd_pos, gcd_of_lem, lcm_zero}
 use Rattle.laws.proofs.lcm.Statement.{statement}
 use Rattle.laws.proofs.lcm.Tie as tie
 
@@ -15,7 +15,7 @@ returns : tie.Need-returns
 returns c = lcm_zero _ _ c.if1.true
 
 div-result : tie.Need-nonzero-div-result
-div-result c = omega (arith, gcd_pos _ _ _ (gcd_of c.before.before.args.a c.before.before.args.b) (omega arith))
+div-result c = omega (arith, gcd_pos _ _ _ (gcd_of_lem c.before.before.args.a c.before.before.args.b) (omega arith))
 
 cast-result : tie.Need-overflow-cast-result
 cast-result c = omega (arith, div-le_self c.before.before.args.a c.gcd.result)

@@ -2,13 +2,13 @@
 -- Assumes nothing.
 use mathlib.Core.Path.{ap, ◌∙◌}
 use Rattle.lent.specs.Scan.{refused_lent}
-use Rattle.lent.proofs.ScanLaws.{no_task, over_tasks, no_core, over_cores, in_count}
+use Rattle.lent.proofs.ScanLaws.{no_task_lem, over_tasks, no_core, over_cores, in_count}
 use borrow.Author.Rules.{rules}
 use Rattle.lent.proofs.begin.Statement.{statement}
 use Rattle.lent.proofs.begin.Tie as tie
 
 returns : tie.Need-returns
-returns c = c.refused.ensures ∙ ap refused_lent (no_task _ _ c.before.if1.true)
+returns c = c.refused.ensures ∙ ap refused_lent (no_task_lem _ _ c.before.if1.true)
 
 returns-2 : tie.Need-returns-2
 returns-2 c = c.refused2.ensures ∙ ap refused_lent (over_tasks _ _ c.before.if2.true)

@@ -3,7 +3,7 @@
 use native.Mathlib.Omega.{arith}
 use borrow.Author.Rules.{rules}
 use Rattle.tasks.proofs.AnswerLaws.{tested_sound}
-use Rattle.search.proofs.AnswerLaws.{few_cells, list_refused, not_refused, call_refused, walk_answer}
+use Rattle.search.proofs.AnswerLaws.{few_cells, list_refused, not_refused, call_refused, walk_answer_lem}
 use Rattle.search.proofs.search.Statement.{statement}
 use Rattle.search.proofs.search.Tie as tie
 
@@ -19,7 +19,7 @@ returns : tie.Need-returns
 returns c = list_refused _ _ _ _ _ _ _ _ c.before.before.before.before.test-list.ensures c.before.before.soundness.given.1 c.refused.ensures
 
 returns-2 : tie.Need-returns-2
-returns-2 c = walk_answer _ _ _ _ _ _ _ c.before.before.before.before.before.before.before.before.before.before.test-list.ensures c.before.before.before.before.before.before.before.before.soundness2.given.1 _ c.before.before.before.before.before.call-refusal.ensures _ c.before.before.before.before.if1.true c.before.before.walk-list.ensures
+returns-2 c = walk_answer_lem _ _ _ _ _ _ _ c.before.before.before.before.before.before.before.before.before.before.test-list.ensures c.before.before.before.before.before.before.before.before.soundness2.given.1 _ c.before.before.before.before.before.call-refusal.ensures _ c.before.before.before.before.if1.true c.before.before.walk-list.ensures
 
 returns-3 : tie.Need-returns-3
 returns-3 c = call_refused _ _ _ _ _ _ _ c.before.before.before.before.before.before.before.test-list.ensures c.before.before.before.before.before.soundness2.given.1 _ c.before.before.call-refusal.ensures _ c.before.if1.false c.refused2.ensures

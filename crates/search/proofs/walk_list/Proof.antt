@@ -4,7 +4,7 @@ use mathlib.Core.Path.{refl}
 use borrow.Author.Rules.{rules}
 use native.Mathlib.Omega.{arith}
 use Rattle.search.proofs.AnswerLaws.{few_cells}
-use Rattle.search.proofs.ToldLaws.{counted_up, walk_told}
+use Rattle.search.proofs.ToldLaws.{counted_up, walk_told_lem}
 use Rattle.search.proofs.walk_list.Statement.{statement}
 use Rattle.search.proofs.walk_list.Tie as tie
 
@@ -21,7 +21,7 @@ hand-over-requires c κs =
 returns : tie.Need-returns
 returns c =
     let start = c.before.before.before.before.before.before.before.before.before.before.before in
-    walk_told _ _ _ _ _ start.requires.0 start.requires.1 start.ranges.limit.fits _ _ refl refl _ _ _ c.before.before.before.before.before.before.before.before.walk-cells.ensures.ran
+    walk_told_lem _ _ _ _ _ start.requires.0 start.requires.1 start.ranges.limit.fits _ _ refl refl _ _ _ c.before.before.before.before.before.before.before.before.walk-cells.ensures.ran
     _ start.requires.2 _ c.before.before.before.before.before.before.before.walk-answer.ensures _ c.before.before.hand-over.ensures
 
 pub walk-list-spec : {M : Type 1} → statement M

@@ -6,18 +6,18 @@ use native.Mathlib.Omega.{arith}
 use lib.Dec.{leb}
 use Rattle.tasks.specs.Task.{rows}
 use Rattle.tasks.specs.Refusal.{unless, table_length, refusal}
-use Rattle.tasks.proofs.AnswerLaws.{refuses, goes_on, or_first, or_next, count_test, within_passed, passed_periods, length_told, length_refused, sound_answer, refused_answer}
+use Rattle.tasks.proofs.AnswerLaws.{refuses, goes_on, or_first, or_next_lem, count_test, within_passed, passed_periods, length_told, length_refused, sound_answer, refused_answer_lem}
 use borrow.Author.Rules.{rules}
 use Rattle.tasks.proofs.test_list.Statement.{statement}
 use Rattle.tasks.proofs.test_list.Tie as tie
 
 returns : tie.Need-returns
 unfolding refusal
-returns c = refused_answer _ _ _ (λ z. omega arith) (refuses _ _ _ _ (count_test _ _ c.before.within.ensures) c.if1.true)
+returns c = refused_answer_lem _ _ _ (λ z. omega arith) (refuses _ _ _ _ (count_test _ _ c.before.within.ensures) c.if1.true)
 
 returns-2 : tie.Need-returns-2
 unfolding refusal
-returns-2 c = refused_answer _ _ _ (λ z. omega arith)
+returns-2 c = refused_answer_lem _ _ _ (λ z. omega arith)
     (goes_on _ _ _ _ _ (count_test _ _ c.before.before.before.within.ensures) c.before.before.if1.false
     (refuses _ _ _ _ c.before.within2.ensures c.if2.true))
 
@@ -26,7 +26,7 @@ list-refusal-requires c κs = (within_passed _ _ _ _ c.before.before.before.with
 
 returns-3 : tie.Need-returns-3
 unfolding refusal
-returns-3 c = refused_answer _ _ _ c.if3.true
+returns-3 c = refused_answer_lem _ _ _ c.if3.true
     (goes_on _ _ _ _ _ (count_test _ _ c.before.before.before.before.before.within.ensures) c.before.before.before.before.if1.false
     (goes_on _ _ _ _ _ c.before.before.before.within2.ensures c.before.before.if2.false
     (or_first _ _ _ c.before.list-refusal.ensures c.if3.true)))
@@ -47,7 +47,7 @@ unfolding refusal
 only-length c x e =
     goes_on _ _ _ _ _ (count_test _ _ c.before.before.before.before.before.before.within.ensures) c.before.before.before.before.before.if1.false
     (goes_on _ _ _ _ _ c.before.before.before.before.within2.ensures c.before.before.before.if2.false
-    (or_next _ _ _ _ c.before.before.list-refusal.ensures c.before.if3.false e))
+    (or_next_lem _ _ _ _ c.before.before.list-refusal.ensures c.before.if3.false e))
 
 returns-4 : tie.Need-returns-4
 returns-4 c =
@@ -56,7 +56,7 @@ returns-4 c =
 
 returns-5 : tie.Need-returns-5
 returns-5 c =
-    refused_answer _ _ _ (λ z. omega arith)
+    refused_answer_lem _ _ _ (λ z. omega arith)
     (only-length c.before.before 8 (length_refused _ _ c.before.before.table-length.ensures c.enum_told.given.1))
 
 pub test-list-spec : {M : Type 1} → statement M
