@@ -1,4 +1,6 @@
 // The writer of an answer's text.
+#![tactic(auto)]
+
 ghost use Rattle.std.specs.Prelude.{◌≡◌, [], ◌∷◌, ◌++◌, ◌+◌, ◌*◌, ◌≤◌, length};
 ghost use Rattle.std.proofs.lemmas.List.Edits.{sets};
 ghost use Rattle.answer.specs.Write.{verdict_frame, cell_at, slot_frame, slot_lines, can_write, write_answer, Written};

@@ -1,4 +1,6 @@
 // The checker of tables: refusals 1 to 8 and 10, then the first fault.
+#![tactic(auto)]
+
 ghost use Rattle.std.specs.Prelude.{◌≡◌, ◌+◌, ◌*◌, ◌≤◌};
 ghost use Rattle.laws.specs.Lists.{nth};
 ghost use Rattle.tasks.specs.Task.{rows};
@@ -10,7 +12,7 @@ use faults::UNKNOWN_TASK;
 use tasks::{Slots, Soundness, TaskList, Work};
 
 // What the checker tells: that the table is valid; slot, core and kind of a faulty cell; task, job and kind of a faulty job; or a refusal.
-#[derive(Drop)]
+#[derive(Clone, Copy)]
 pub enum Verdict {
     Valid,
     Cell(u16, u8, u8),
@@ -21,7 +23,7 @@ pub enum Verdict {
 const IDLE: u8 = 0;
 
 // What a cell does: nothing; for the job at a counter, of this work, so much; or a fault of a kind.
-#[derive(Drop)]
+#[derive(Clone, Copy)]
 enum Effect {
     Nothing,
     Does(usize, Work, Work),

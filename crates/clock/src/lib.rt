@@ -1,4 +1,6 @@
 // The player's clock: what a step works out of the record's numbers, and what is shown.
+#![tactic(auto)]
+
 ghost use Rattle.std.specs.Prelude.{◌≡◌, pred, ◌+◌, ◌-◌, ◌^◌, ◌<◌, min, [], ◌∷◌};
 ghost use Rattle.laws.specs.Lists.{nth};
 ghost use Rattle.clock.specs.Clock.{elapsed_of, step_refusal, stays_of, next_of, shown_cell, cell_of, shown_of};
@@ -6,11 +8,11 @@ ghost use Rattle.clock.specs.Clock.{elapsed_of, step_refusal, stays_of, next_of,
 use tasks::{MAX_CORES, MAX_SLOTS, MAX_TASKS, Slots};
 
 // Slots of time that have passed between two ticks.
-#[derive(Drop)]
+#[derive(Clone, Copy)]
 pub struct Elapsed(pub u32);
 
 // What a start or a step answers: four cells, one a core, and the slots missed.
-#[derive(Drop)]
+#[derive(Clone, Copy)]
 pub struct Shown {
     pub verdict: u8,
     pub cells: [u8; 4],
@@ -18,7 +20,7 @@ pub struct Shown {
 }
 
 // What a step works out of the record's numbers: what it stores, the slots missed, where the slot's cells begin in the table, and its verdict.
-#[derive(Drop)]
+#[derive(Clone, Copy)]
 pub struct Next {
     pub last: u32,
     pub missed: u32,

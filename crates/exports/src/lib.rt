@@ -1,4 +1,6 @@
 // The functions that C and Rust link: numbers, records as C lays them out, and slices as pointer and length.
+#![tactic(auto)]
+
 ghost use Rattle.std.specs.Prelude.{◌≡◌, ◌≤◌, length, leb};
 ghost use Rattle.table.specs.Fault.{check as check_of};
 ghost use Rattle.rules.specs.Search.{search as search_of};

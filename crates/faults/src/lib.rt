@@ -1,4 +1,6 @@
 // The tests of one cell and of one job: kinds of fault, and the counts of the jobs' work.
+#![tactic(auto)]
+
 ghost use Rattle.std.specs.Prelude.{◌≡◌, ◌+◌, ◌≤◌, ◌<◌, length};
 ghost use Rattle.laws.specs.Lists.{seek};
 ghost use Rattle.table.specs.Fault.{known_kind};

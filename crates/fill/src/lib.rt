@@ -1,4 +1,6 @@
 // The walk's grid of a sound list: the entries, what stands behind them, and the marks of the slots in which jobs end.
+#![tactic(auto)]
+
 ghost use Rattle.std.specs.Prelude.{◌≡◌, ℕ, suc, ◌*◌, ◌≤◌, ◌<◌, ◌/◌, ◌%◌};
 ghost use Rattle.laws.specs.Lists.{filled};
 ghost use Rattle.tasks.specs.Task.{task_at};

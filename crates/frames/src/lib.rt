@@ -1,4 +1,6 @@
 // Frames: the reader of a problem's text.
+#![tactic(auto)]
+
 ghost use Rattle.std.specs.Prelude.{◌≡◌, List, ℕ, ◌+◌, ◌*◌, ◌≤◌, ◌<◌};
 ghost use Rattle.laws.specs.Lists.{nth};
 ghost use Rattle.lines.specs.Frame.{two, four, ten_bytes};
@@ -62,7 +64,7 @@ fn may_follow(last: u8, kind: u8) -> bool
 }
 
 // What a text holds: a problem, or the number that refuses the file.
-#[derive(Drop)]
+#[derive(Clone, Copy)]
 pub struct Problem {
     pub refusal: u8,
     pub m: u8,

@@ -17,6 +17,8 @@
 // Tasks and cores count from 0 here.
 // Beside the grid stands `left`, the work left of each job at its counter, job * 16 + task; its last place, 16384, is the
 // counter of a task in a slot where it is closed, and is always 0.
+#![tactic(auto)]
+
 ghost use Rattle.std.specs.Prelude.{◌≡◌, ◌+◌, ◌≤◌, ◌<◌, ltb};
 ghost use Rattle.laws.specs.Sum.{gate};
 ghost use Rattle.grid.specs.Grid.{counter_on, rate_on, sets_at, sets_on, bars_idle, twin_rank_on, floor_on, settled_on, first_due_on, due_on, starves as starves_of, tasks_on, OnGrid};

@@ -22,6 +22,7 @@ before_at rank (suc c) (v ∷ s) (w ∷ t) i j e h =
 -- the values from v on are v, .., n and 0
 up_to_in : (d v w : ℕ) → In w (up_to d v) → (w ≡ 0) ⊎ ((v ≤ w) × (w < v + d))
 up_to_in zero v w (inl e) = inl e
+up_to_in zero v w (inr m) = elim m [ ]
 up_to_in (suc d) v w (inl e) = inr (omega arith)
 up_to_in (suc d) v w (inr m) = ⊎_elim inl (λ b. inr (omega arith)) (up_to_in d (suc v) w m)
 

@@ -1,4 +1,6 @@
 // The greatest common divisor and the least common multiple. The crate's other matter is the definitions and laws in specs/ and proofs/.
+#![tactic(auto)]
+
 ghost use Rattle.std.specs.Prelude.{◌≡◌};
 ghost use Rattle.laws.specs.Lcm.{gcd_of, lcm_of};
 

@@ -1,11 +1,13 @@
 // The tasks that the caller lends: a scan for refusals 1 to 7 that takes them over into a list as numbers.
+#![tactic(auto)]
+
 ghost use Rattle.std.specs.Prelude.{◌≡◌, ◌<◌};
 ghost use Rattle.lent.specs.Scan.{count_refusal, refused_lent, Scanned, more_to_scan, taken_task};
 
 use tasks::{MAX_CORES, MAX_TASKS, Task, TaskList};
 
 // The first refusal of the tasks, 0 if there is none, and the list as numbers; no task where one is refused.
-#[derive(Drop)]
+#[derive(Clone, Copy)]
 pub struct Lent {
     pub refusal: u8,
     pub list: TaskList,

@@ -1,4 +1,6 @@
 // Lines: a frame's kind and length, and a frame as its line of digits, read and written.
+#![tactic(auto)]
+
 ghost use Rattle.std.specs.Prelude.{◌≡◌, [], ◌∷◌, ◌+◌, ◌*◌, ◌≤◌, ◌<◌, length, take};
 ghost use Rattle.std.proofs.lemmas.List.Edits.{sets};
 ghost use Rattle.std.proofs.Math.Seq.{slice};
@@ -43,7 +45,7 @@ fn length_of(kind: u8) -> usize
 }
 
 // Whether a kind stands in a problem, in an answer alone, or in neither.
-#[derive(Drop)]
+#[derive(Clone, Copy)]
 pub enum Sort {
     Known,
     Misplaced,

@@ -1,4 +1,6 @@
 // The planning program: a problem on standard input, its answer on standard output.
+#![tactic(auto)]
+
 use libc::{STDIN_FILENO, STDOUT_FILENO};
 
 // One byte more than the longest file that is not refused: whatever follows need not be read.

@@ -1,4 +1,6 @@
 // The calls over the tasks that a caller lends, and the way from the text of a problem to the text of its answer.
+#![tactic(auto)]
+
 ghost use Rattle.std.specs.Prelude.{◌≡◌, List, length, leb};
 ghost use Rattle.tasks.specs.declared.Task.{Task};
 ghost use Rattle.tasks.specs.Task.{rows};
@@ -86,7 +88,7 @@ pub fn start(p: &mut Player, tasks: &[Task], m: u8, table: &[u8], tick: u32) -> 
 }
 
 // The slots and the cores of a list's table; 0 and 0 of a list that is refused.
-#[derive(Drop)]
+#[derive(Clone, Copy)]
 pub struct Size {
     pub slots: u16,
     pub m: u8,

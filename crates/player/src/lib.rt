@@ -1,4 +1,6 @@
 // The player: its record, a start and a step.
+#![tactic(auto)]
+
 ghost use Rattle.std.specs.Prelude.{◌≡◌, ◌≤◌, length, replicate};
 ghost use Rattle.laws.specs.Lists.{nth};
 ghost use Rattle.tasks.specs.Task.{rows};
@@ -10,7 +12,7 @@ use tasks::{Slots, Soundness, TaskList};
 
 // The player's record. The fields stand so that C lays them out without gaps.
 #[repr(C)]
-#[derive(Drop)]
+#[derive(Clone, Copy)]
 pub struct Player {
     pub last: u32,
     pub h: u16,
@@ -23,7 +25,7 @@ pub struct Player {
 }
 
 // The record after a start, and what the start answers.
-#[derive(Drop)]
+#[derive(Clone, Copy)]
 pub struct Started {
     pub player: Player,
     pub shown: Shown,

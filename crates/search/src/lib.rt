@@ -1,4 +1,6 @@
 // The search: refuses, fills the walk's arrays once, walks, and fills or clears the caller's buffer.
+#![tactic(auto)]
+
 ghost use Rattle.std.specs.Prelude.{◌≡◌, ℕ, ◌*◌, ◌%◌, ◌≤◌, ◌<◌, length};
 ghost use Rattle.laws.specs.Lists.{filled};
 ghost use Rattle.tasks.specs.Task.{rows};
@@ -41,7 +43,7 @@ fn hand_over(table: &mut [u8], n: usize, found: bool, cells: &[u8; 4096])
 }
 
 // A verdict and the tries.
-#[derive(Drop)]
+#[derive(Clone, Copy)]
 pub struct Answer {
     pub verdict: u8,
     pub tries: u32,

@@ -1,4 +1,6 @@
 // Sets of tasks, one for each of four cores, as the bits of one number: task v, from 0, on core c is bit 4 * v + c.
+#![tactic(auto)]
+
 ghost use Rattle.std.specs.Prelude.{◌≡◌, ◌*◌, ◌^◌, ◌<◌};
 ghost use Rattle.sets.specs.Sets.{of_core, lowest as lowest_of, without as without_of, pushed as pushed_of, common as common_of, on_cores, from_rank};
 

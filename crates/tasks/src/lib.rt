@@ -1,25 +1,27 @@
 // Tasks: their numbers and ranges, refusals 1 to 8, and the length of the table.
+#![tactic(auto)]
+
 ghost use Rattle.std.specs.Prelude.{◌≡◌, ◌*◌, ◌≤◌, ◌<◌};
 ghost use Rattle.tasks.specs.Task.{task_at, rows, added, work_in};
 ghost use Rattle.tasks.specs.Refusal.{within as within_of, rates_fit, task_refusal, list_refusal, Periods, length_of, tested_as, tested};
 
 // A number of slots of time.
 #[repr(C)]
-#[derive(Drop)]
+#[derive(Clone, Copy)]
 pub struct Slots(pub u16);
 
 // Units of work.
 #[repr(C)]
-#[derive(Drop)]
+#[derive(Clone, Copy)]
 pub struct Work(pub u16);
 
 // A task's rates, one a core.
 #[repr(C)]
-#[derive(Drop)]
+#[derive(Clone, Copy)]
 pub struct Rates(pub [u8; 4]);
 
 #[repr(C)]
-#[derive(Drop)]
+#[derive(Clone, Copy)]
 pub struct Task {
     pub offset: Slots,
     pub work: Work,
@@ -62,7 +64,7 @@ pub const BAD_ENGINE: u8 = 9;
 pub const BAD_BUFFER: u8 = 10;
 
 // A task list as numbers: n tasks, field by field, and four rates a task. Any n above 16 stands for too many.
-#[derive(Drop)]
+#[derive(Clone, Copy)]
 pub struct TaskList {
     pub n: u8,
     pub offset: [u16; 16],
@@ -187,7 +189,7 @@ fn list_refusal(list: TaskList, m: u8) -> u8
 }
 
 // The length of a table, or that it would be over 1024 slots.
-#[derive(Drop)]
+#[derive(Clone, Copy)]
 pub enum Length {
     Fits(Slots),
     TooLong,
@@ -213,7 +215,7 @@ fn table_length(list: TaskList) -> Length
 }
 
 // A sound list, with the length of its table; or the number that refuses it.
-#[derive(Drop)]
+#[derive(Clone, Copy)]
 pub enum Soundness {
     Sound(Slots),
     Refused(u8),

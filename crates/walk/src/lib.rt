@@ -4,6 +4,8 @@
 // worked out once a slot.
 // A call takes six arguments at most, since a seventh would pass through memory: slot and core are one place, and the tries
 // are counted up to the largest number in place of the limit.
+#![tactic(auto)]
+
 ghost use Rattle.std.specs.Prelude.{◌≡◌, ◌-◌, ◌≤◌, ◌<◌, set};
 ghost use Rattle.grid.specs.Grid.{sets_on, cores_on, OnGrid};
 ghost use Rattle.walk.specs.Machine.{Stands, Ran, RanAfter};

@@ -1,4 +1,6 @@
 // Windows: in which slots a task is open, for which job, and how many of the job's slots are still to come.
+#![tactic(auto)]
+
 ghost use Rattle.std.specs.Prelude.{◌≡◌, ◌≤◌, ◌<◌, min};
 ghost use Rattle.tasks.specs.Window.{place as place_of};
 ghost use Rattle.windows.specs.Answer.{Fit, in_slot};
@@ -7,7 +9,7 @@ use tasks::{Slots, Task};
 
 // A task in a slot: whether it is open; the number of its job, in a closed slot too; and how many of the job's slots have a
 // higher number in the table, 0 in a closed slot.
-#[derive(Drop)]
+#[derive(Clone, Copy)]
 pub struct InSlot {
     pub opens: bool,
     pub job: u16,
