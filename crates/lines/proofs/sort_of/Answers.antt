@@ -4,36 +4,32 @@ use native.Mathlib.Omega.{arith}
 use borrow.Author.Tests.{ne_eqb}
 use Rattle.lines.specs.Frame.{sort_of}
 use Rattle.lines.proofs.FrameLaws.{inside, below, above}
-use Rattle.lines.proofs.sort_of.Statement.{statement}
-use Rattle.lines.proofs.sort_of.Tie as tie
+use Rattle.lines.proofs.sort_of.Goals as goal
 
-returns : tie.Need-returns
+pub returns-in-5-to-6 : goal.returns-in-5-to-6
 unfolding sort_of
-returns c =
-    let k = c.before.before.before.before.args.kind in
+returns-in-5-to-6 c =
+    let k = c.args.kind in
     rw (above 1 4 k (omega arith), ne_eqb k 7 (λ e. omega arith), inside 5 6 k (omega arith) (omega arith))
 
-returns-2 : tie.Need-returns-2
+pub returns-in_default : goal.returns-in_default
 unfolding sort_of
-returns-2 c =
-    let k = c.before.before.args.kind in
+returns-in_default c =
+    let k = c.args.kind in
     rw (below 1 4 k (omega arith), ne_eqb k 7 (λ e. omega arith), below 5 6 k (omega arith))
 
-returns-3 : tie.Need-returns-3
+pub returns-in_default-2 : goal.returns-in_default-2
 unfolding sort_of
-returns-3 c =
-    let k = c.before.before.before.before.args.kind in
+returns-in_default-2 c =
+    let k = c.args.kind in
     rw (above 1 4 k (omega arith), ne_eqb k 7 (λ e. omega arith), above 5 6 k (omega arith))
 
-returns-4 : tie.Need-returns-4
+pub returns-in-1-to-4 : goal.returns-in-1-to-4
 unfolding sort_of
-returns-4 c = rw (c.match.keys1, above 1 4 7 (omega arith))
+returns-in-1-to-4 c = rw (c.in-1-to-4.keys1, above 1 4 7 (omega arith))
 
-returns-5 : tie.Need-returns-5
+pub returns-in-1-to-4-2 : goal.returns-in-1-to-4-2
 unfolding sort_of
-returns-5 c =
-    let k = c.before.before.before.args.kind in
+returns-in-1-to-4-2 c =
+    let k = c.args.kind in
     rw (inside 1 4 k (omega arith) (omega arith))
-
-pub sort-of-spec : {M : Type 1} → statement M
-sort-of-spec = tie.close (tie.spec returns returns-2 returns-3 returns-4 returns-5)
