@@ -7,4 +7,4 @@ pub returns-then-verdict-ne0 : goal.returns-then-verdict-ne0
 returns-then-verdict-ne0 c = answer_refused _ _ _ _ _ c.if-verdict-ne0.true
 
 pub returns : goal.returns
-returns c = let d = c.before.before in answer_taken _ _ _ _ _ _ _ _ _ _ _ _ d.before.before.before.if1.false d.before.cell-of.ensures d.cell-of2.ensures c.cell_of-3.ensures c.cell_of-4.ensures
+returns c = answer_taken _ _ _ _ _ _ _ _ _ _ _ _ c.if-verdict-ne0.false c.cell_of.ensures c.cell_of-2.ensures c.cell_of-3.ensures c.cell_of-4.ensures

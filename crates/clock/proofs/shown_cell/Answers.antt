@@ -14,4 +14,4 @@ pub returns-then-m-core : goal.returns-then-m-core
 returns-then-m-core c = let a = c.args in sym (shown_beyond a.m a.n a.age.0 a.offset.0 a.core a.cell c.if-m-core.true)
 
 pub returns : goal.returns
-returns c = let b = c.before.before.before.before in let a = b.before.args in sym (shown_own a.m a.n a.age.0 a.offset.0 a.core a.cell b.if1.false c.if-age-offset.false c.if-m-core.false)
+returns c = let a = c.args in sym (shown_own a.m a.n a.age.0 a.offset.0 a.core a.cell c.if-n-cell.false c.if-age-offset.false c.if-m-core.false)

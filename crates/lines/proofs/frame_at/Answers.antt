@@ -16,16 +16,14 @@ loop-k-init c = (omega arith, refl)
 
 pub loop-k-preserved : goal.loop-k-preserved
 loop-k-preserved c =
-    let a = c.before.before.before.before in
     let k = c.loop-k in (
       omega arith,
-      ten_bytes_more (bytes_of (slice a.args.from a.args.to a.args.text.now)) _ k.k _ (omega arith) k.invariant.1
-          (part_byte a.args.text.now a.args.from a.args.to k.k _ a.requires.1 (omega arith) c.byte_at.ensures),
+      ten_bytes_more (bytes_of (slice c.args.from c.args.to c.args.text.now)) _ k.k _ (omega arith) k.invariant.1
+          (part_byte c.args.text.now c.args.from c.args.to k.k _ c.requires.1 (omega arith) c.byte_at.ensures),
     )
 
 pub returns : goal.returns
 returns c =
-    let a = c.before.before.before in
-    let part = slice a.args.from a.args.to a.args.text.now in
+    let part = slice c.args.from c.args.to c.args.text.now in
     ten_bytes_all (bytes_of part) _ c.loop-k.k
-    (omega (arith, bytes_length part, length-slice a.args.from a.args.to a.args.text.now a.requires.1)) c.loop-k.invariant.1
+    (omega (arith, bytes_length part, length-slice c.args.from c.args.to c.args.text.now c.requires.1)) c.loop-k.invariant.1

@@ -9,29 +9,30 @@ use Rattle.lines.specs.declared.Sort.TheVariants.{Known, Misplaced, Unknown}
 use Rattle.lines.proofs.RefusalLaws.{kind_low}
 use Rattle.lines.proofs.frame_refusal.Goals as goal
 
-unknown : (c : goal.In-Unknown) → sort_of c.args.kind ≡ Unknown
-unknown c = sym c.sort_of.ensures ∙ c.in-Unknown.is
-
-misplaced : (c : goal.In-Misplaced) → sort_of c.args.kind ≡ Misplaced
-misplaced c = sym c.sort_of.ensures ∙ c.in-Misplaced.is
-
-known : (c : goal.In-Known) → sort_of c.args.kind ≡ Known
-known c = sym c.sort_of.ensures ∙ c.in-Known.is
-
 pub length_refusal-requires : goal.length_refusal-requires
-length_refusal-requires c = kind_low _ (ap is_kind (misplaced c))
+length_refusal-requires c =
+    let misplaced : (sort_of c.args.kind ≡ Misplaced) = sym c.sort_of.ensures ∙ c.in-Misplaced.is in
+    kind_low _ (ap is_kind misplaced)
 
 pub length_refusal-requires-in-Known : goal.length_refusal-requires-in-Known
-length_refusal-requires-in-Known c = kind_low _ (ap is_kind (known c))
+length_refusal-requires-in-Known c =
+    let known : (sort_of c.args.kind ≡ Known) = sym c.sort_of.ensures ∙ c.in-Known.is in
+    kind_low _ (ap is_kind known)
 
 pub returns-in-Unknown : goal.returns-in-Unknown
 unfolding frame_refusal unless
-returns-in-Unknown c = rw (unknown c)
+returns-in-Unknown c =
+    let unknown : (sort_of c.args.kind ≡ Unknown) = sym c.sort_of.ensures ∙ c.in-Unknown.is in
+    rw unknown
 
 pub returns-in-Misplaced : goal.returns-in-Misplaced
 unfolding frame_refusal unless
-returns-in-Misplaced c = rw (misplaced c.before) c.length_refusal.ensures
+returns-in-Misplaced c =
+    let misplaced : (sort_of c.args.kind ≡ Misplaced) = sym c.sort_of.ensures ∙ c.in-Misplaced.is in
+    rw misplaced c.length_refusal.ensures
 
 pub returns-in-Known : goal.returns-in-Known
 unfolding frame_refusal unless
-returns-in-Known c = rw (known c.before) c.length_refusal-in-Known.ensures
+returns-in-Known c =
+    let known : (sort_of c.args.kind ≡ Known) = sym c.sort_of.ensures ∙ c.in-Known.is in
+    rw known c.length_refusal-in-Known.ensures

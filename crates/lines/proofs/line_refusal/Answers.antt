@@ -8,22 +8,18 @@ use Rattle.lines.proofs.line_refusal.Goals as goal
 
 pub returns-then-to-text : goal.returns-then-to-text
 returns-then-to-text c =
-    let a = c.before.before in
-    sym (not_ended a.args.text.now a.args.from a.args.to a.requires.1 (omega arith))
+    sym (not_ended c.args.text.now c.args.from c.args.to c.requires.1 (omega arith))
 
 pub returns-then-to-from-lt2 : goal.returns-then-to-from-lt2
 returns-then-to-from-lt2 c =
-    let a = c.before.before.before in
-    sym (too_short a.args.text.now a.args.from a.args.to a.requires.1 c.if-to-from-lt2.true)
+    sym (too_short c.args.text.now c.args.from c.args.to c.requires.1 c.if-to-from-lt2.true)
 
 pub returns-then-not-are_pairs : goal.returns-then-not-are_pairs
 returns-then-not-are_pairs c =
-    let a = c.before.before.before.before.before in
-    sym (not_pairs a.args.text.now a.args.from a.args.to a.requires.1 (sym c.are_pairs.ensures ∙ not-true _ c.if-not-are_pairs.true-raw))
+    sym (not_pairs c.args.text.now c.args.from c.args.to c.requires.1 (sym c.are_pairs.ensures ∙ not-true _ c.if-not-are_pairs.true-raw))
 
 pub returns : goal.returns
 returns c =
-    let a = c.before.before.before.before.before.before.before in
     c.frame_refusal.ensures
-    ∙ whole_line a.args.text.now a.args.from a.args.to a.requires.1 _ (λ e. omega arith) c.if-to-from-lt2.false
+    ∙ whole_line c.args.text.now c.args.from c.args.to c.requires.1 _ (λ e. omega arith) c.if-to-from-lt2.false
     (sym c.are_pairs.ensures ∙ not-false _ c.if-not-are_pairs.false-raw) c.byte_at.ensures

@@ -20,7 +20,7 @@ pub loop-k-preserved : goal.loop-k-preserved
 loop-k-preserved c =
     let a = c.args in
     let l = c.loop-k in
-    let e = one_byte a.out.now a.at a.t3 l.k _ _ _ (omega arith) l.invariant.1 l.invariant.3 c.put_byte.ensures in
+    let e = one_byte a.out.now a.at a.frame l.k _ _ _ (omega arith) l.invariant.1 l.invariant.3 c.put_byte.ensures in
     (omega arith, omega arith, ap length e ∙ simp length-sets, e)
 
 pub bounds-out-next : goal.bounds-out-next
@@ -37,5 +37,5 @@ returns c =
     let whole : l.k ≡ n.result = omega arith in
     let all = whole ∙ n.ensures.0 in (
       omega (arith, all),
-      line_end a.out.now a.at a.t3 l.k _ _ _ all (omega arith) l.invariant.1 l.invariant.3,
+      line_end a.out.now a.at a.frame l.k _ _ _ all (omega arith) l.invariant.1 l.invariant.3,
     )

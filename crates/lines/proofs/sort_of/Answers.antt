@@ -26,7 +26,7 @@ returns-in_default-2 c =
 
 pub returns-in-1-to-4 : goal.returns-in-1-to-4
 unfolding sort_of
-returns-in-1-to-4 c = rw (c.in-1-to-4.keys1, above 1 4 7 (omega arith))
+returns-in-1-to-4 c = rw (c.in-1-to-4.in-1-to-4-own.keys1, above 1 4 7 (omega arith))
 
 pub returns-in-1-to-4-2 : goal.returns-in-1-to-4-2
 unfolding sort_of
