@@ -9,7 +9,7 @@ use mathlib.Core.List.{List, [], ◌∷◌, ◌++◌}
 use lib.Dec.{T}
 use Rattle.laws.specs.Order.{In, Before, Rising, last, next}
 use Rattle.rules.specs.Walk.{Rule, Result, spend, gated, or_else, try_all, walk}
-use Rattle.rules.specs.Right.{empty, Starts, starts, Clean, Right, first, nowhere}
+use Rattle.rules.specs.Right.{Empty, empty, Starts, starts, Clean, Right, first, nowhere}
 
 -- what starts with a value of vs starts with v or a value of vs
 widen : {G : ℕ → List ℕ → Type 0} {v : ℕ} {vs s : List ℕ} → Starts vs G s → Starts (v ∷ vs) G s
@@ -19,6 +19,14 @@ widen (starts m g) = starts (inr m) g
 narrow : {G : ℕ → List ℕ → Type 0} {v : ℕ} {vs s : List ℕ} → ((t : List ℕ) → G v t → ⊥) → Starts (v ∷ vs) G s → Starts vs G s
 narrow h (starts {s = s} (inl e) g) = absurd (h s (rw e at g))
 narrow h (starts (inr m) g) = starts m g
+
+-- no value starts a table
+unstarted : {G : ℕ → List ℕ → Type 0} {t : List ℕ} → Starts [] G t → ⊥
+unstarted (starts m g) = m
+
+-- the empty table comes before none that is empty
+empty_first : (rank : ℕ → ℕ) {t : List ℕ} → Empty t → Before rank t [] → ⊥
+empty_first rank empty b = b
 
 module _ {rank : ℕ → ℕ} where
   -- more tries leave an answer right
@@ -54,12 +62,12 @@ module _ {rank : ℕ → ℕ} where
   -- the values in their order give the first table
   try_all_right : {G : ℕ → List ℕ → Type 0} {f : ℕ → Result} {vs : List ℕ} → Rising rank vs → ((v : ℕ) → Right rank (G v) (f v))
       → Right rank (Starts vs G) (try_all f vs)
-  try_all_right last h = nowhere (λ t x. elim x [ starts m g ↦ m ])
+  try_all_right last h = nowhere (λ t. unstarted)
   try_all_right (next {v = v} o up) h = or_else_right o (h v) (try_all_right up h)
 
   -- the walk's verdict is right: sound, complete and first
   pub walk_right : (R : Rule) {vs : List ℕ} → Rising rank vs → (l : ℕ) (p : List ℕ) → Right rank (Clean R vs l p) (walk R vs l p)
   unfolding walk
-  walk_right R up zero p = gated_right (R.goes_on p) (first (empty, λ t x. elim x [ empty ↦ λ b. b ]))
+  walk_right R up zero p = gated_right (R.goes_on p) (first (empty, λ t. empty_first rank))
   walk_right R up (suc l) p = gated_right (R.goes_on p) (try_all_right up
       (λ v. gated_right (R.tried p v) (spend_right (R.cost p v) (walk_right R up l (p ++ v ∷ [])))))

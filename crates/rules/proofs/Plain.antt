@@ -164,7 +164,7 @@ module _ (P : Instance) (regular : Regular P) (t : List ℕ) where
 
   -- and the other way
   pub table_clean : Table P t → Clean (plain P) (values P) (cells P) [] t
-  table_clean h = passes_clean (cells P) [] t (record {
+  table_clean h = passes_clean {R = plain P} (cells P) [] t (record {
     size = h.size;
     goes = λ c l. rw (prefix_settled P c t (omega arith)) (w.goes c l);
     known = λ c l. in_up_to P.tasks 1 (nth t c) (elim (ℕ_discrete (nth t c) 0) [ yes e ↦ inl e | no x ↦ inr (omega (arith, h.valid.known c l)) ]);

@@ -190,7 +190,7 @@ first_table P regular t h = (clean_table P regular t h.0, λ s g. h.1 s (table_c
 
 -- the quick rule lets the first table pass
 quick_keeps : (P : Instance) → Regular P → (t : List ℕ) → First (rank P) (Clean (plain P) (values P) (cells P) []) t → Clean (quick P) (values P) (cells P) [] t
-quick_keeps P regular t h = passes_clean (cells P) [] t (record {
+quick_keeps P regular t h = passes_clean {R = quick P} (cells P) [] t (record {
   size = p.size;
   goes = p.goes;
   known = p.known;
