@@ -1,7 +1,7 @@
 // The tasks that the caller lends: a scan for refusals 1 to 7 that takes them over into a list as numbers.
 #![tactic(auto)]
 
-ghost use Rattle.std.specs.Prelude.{◌≡◌, ◌<◌};
+ghost use Rattle.std.specs.Prelude.{◌≡◌, ◌<◌, length};
 ghost use Rattle.lent.specs.Scan.{count_refusal, refused_lent, Scanned, more_to_scan, taken_task};
 
 use tasks::{MAX_CORES, MAX_TASKS, Task, TaskList};
@@ -62,7 +62,8 @@ fn more_to_scan(lent: Lent, i: usize, n: usize) -> bool
 // One more task: its refusal, 3 to 7, or the list with the task behind its last.
 fn take_task(lent: Lent, t: Task, m: u8) -> Lent
     requires { lent.list.n < 16 }
-    ensures { result ≡ taken_task m lent t }
+    ensures taken { result ≡ taken_task m lent t }
+    ensures four { length t.rates.0 ≡ 4 }
 {
     let refusal = tasks::task_refusal(t, m);
     if refusal != 0 {

@@ -1,9 +1,6 @@
--- `lent::scan` meets its contract. A task that is lent has four rates.
+-- `lent::scan` meets its contract: each turn takes the scan one task further, and the last leaves it at its answer.
 -- Assumes nothing.
 use Prim.Native.Nat.{◌+◌, zero-le}
-use lib.ListN.{length, get_or}
-use mathlib.Core.Path.{◌≡◌}
-use Rattle.tasks.specs.Task.{no_task}
 use mathlib.Core.Path.{sym, subst, ◌∙◌}
 use native.Mathlib.Omega.{arith}
 use Rattle.lent.proofs.ScanLaws.{Reached, reach_first, reach_next, reach_end, reach_less, reach_room}
@@ -23,9 +20,11 @@ loop-lent-smaller c = omega (arith, reach_less c.args.m _ _ c.loop-lent.lent (sy
 
 pub loop-lent-preserved : goal.loop-lent-preserved
 loop-lent-preserved c =
-    let less = reach_less c.args.m _ _ c.loop-lent.lent (sym c.more_to_scan.ensures ∙ c.loop-lent-test.true) in
-    let four : length (get_or c.args.tasks.now c.loop-lent.i no_task).rates.0 ≡ 4 = let w0 = c.well_formed.0 in ? in
-    (omega arith, subst (Reached c.args.m c.args.tasks.now (c.loop-lent.i + 1)) (sym c.take_task-lent.ensures) (reach_next _ _ _ _ c.loop-lent.invariant.1 (sym c.more_to_scan.ensures ∙ c.loop-lent-test.true) four))
+    let more = sym c.more_to_scan.ensures ∙ c.loop-lent-test.true in (
+      omega (arith, reach_less c.args.m _ _ c.loop-lent.lent more),
+      subst (Reached c.args.m c.args.tasks.now (c.loop-lent.i + 1)) (sym c.take_task-lent.ensures.taken)
+          (reach_next _ _ _ _ c.loop-lent.invariant.1 more c.take_task-lent.ensures.four),
+    )
 
 pub returns : goal.returns
 returns c = reach_end _ _ _ _ c.loop-lent.invariant.0 c.loop-lent.invariant.1 (sym c.more_to_scan.ensures ∙ c.loop-lent-test.false)
