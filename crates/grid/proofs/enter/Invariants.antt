@@ -1,0 +1,12 @@
+-- `grid::enter` meets its contract. The loop's invariant: the set has the tasks passed that have work left, from the last on.
+-- Assumes nothing.
+use Prim.Native.Nat.{◌-◌, ◌≤◌}
+use mathlib.Core.Path.{◌≡◌}
+use Rattle.grid.specs.Grid.{tasks_on, left_from}
+use Rattle.grid.proofs.enter.Given as goal
+
+abbrev pub invariant-loop-task : goal.invariant-loop-task
+invariant-loop-task l = (l.task ≤ tasks_on l.grid) × (l.set ≡ left_from l.grid l.left l.slot (tasks_on l.grid - l.task) l.task)
+
+abbrev pub decreases-loop-task : goal.decreases-loop-task
+decreases-loop-task l = l.task
