@@ -8,8 +8,6 @@ use mathlib.Core.Logic.{◌≢◌, ⊎_elim}
 use mathlib.Core.List.{List, [], ◌∷◌}
 use lib.ListN.{length, replicate, length-replicate, get_or-replicate}
 use borrow.Author.Tests.{lt-leb, le-leb, lt-ltb, le-ltb, ne_eqb}
-use types.Run.{OneOf}
-use denote.Enum.Declared.{tag_of}
 use Rattle.laws.specs.Sum.{sum}
 use Rattle.laws.specs.Lists.{nth, seek, first_of}
 use Rattle.laws.proofs.SumLaws.{gate_ge, lt_or_ge}
@@ -121,9 +119,9 @@ unfolding checked_as
 valid_told = refl
 
 -- nothing else is told so
-not_valid : (r : Verdict) → OneOf (1 ∷ 2 ∷ 3 ∷ []) (tag_of the_type r) → checked_as r ≡ checked no_fault → ⊥
+not_valid : (r : Verdict) → r ≢ Valid → checked_as r ≡ checked no_fault → ⊥
 unfolding checked_as
-not_valid Valid o e = ⊎_elim (λ p. absurd (omega arith)) (λ p. ⊎_elim (λ q. absurd (omega arith)) (λ q. absurd (omega arith)) p) o
+not_valid Valid o e = absurd (o refl)
 not_valid (Cell s j k) o e = let z : ◌≡◌ {A = ℕ} 0 1 = cc in omega arith
 not_valid (Job i k d) o e = let z : ◌≡◌ {A = ℕ} 0 1 = cc in omega arith
 not_valid (Refused n) o e = let z : ◌≡◌ {A = ℕ} 0 1 = cc in omega arith
@@ -192,5 +190,5 @@ module _ {list : TaskList} {m h : ℕ} {t : List ℕ} (ready : Checkable list m 
         none = cell_none (instance_for list m h) (nth t) (cc clean)
 
     -- one is
-    pub cell_told : OneOf (1 ∷ 2 ∷ 3 ∷ []) (tag_of the_type r) → checked_as r ≡ check m (rows list) t
+    pub cell_told : r ≢ Valid → checked_as r ≡ check m (rows list) t
     cell_told o = scan.told ∙ ap checked (sym (cell_first (instance_for list m h) (nth t) (λ z. not_valid r o (scan.told ∙ ap checked z)))) ∙ sym check_is

@@ -34,4 +34,4 @@ returns-in-Valid c =
 pub returns-in_default : goal.returns-in_default
 returns-in_default c =
     let ready : (Checkable c.args.list c.args.m c.in-Sound.len.0 c.args.table.now) = ready_there _ _ _ c.test_list-soundness.ensures c.in-Sound.is c.if-table-len.false in
-    cell_told ready c.scan_cells-cells.ensures c.in_default.in_default-own.keys2
+    cell_told ready c.scan_cells-cells.ensures c.in_default.not-Valid

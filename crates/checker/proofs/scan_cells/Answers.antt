@@ -1,12 +1,12 @@
 -- `checker::scan_cells` meets its contract. Both loops' invariant: the cells passed have no fault, and their work is counted.
 -- The measures are what is left of the slots and of the cores. Assumes nothing.
 use Prim.Native.Nat.{◌-◌, ◌<◌}
-use mathlib.Core.Logic.{⊎_elim}
 use native.Mathlib.Omega.{arith}
 use Rattle.checker.specs.Checks.{At}
 use Rattle.checker.proofs.ScanLaws.{begins, as_far, rests_at, counter_there, fits_at, works_at, stops_at, ends_at}
 use borrow.Author.Rules.{rules}
 use Rattle.checker.proofs.scan_cells.Goals as goal
+use Rattle.checker.proofs.scan_cells.Goals.{in-Nothing, in-Does}
 
 pub scan-init : goal.scan-init
 scan-init c = (as_far (begins c.requires.1) (omega arith), omega arith)
@@ -49,10 +49,10 @@ pub loop-core-preserved : goal.loop-core-preserved
 loop-core-preserved c =
     let at : (At c.args.list c.args.m c.args.len.0 c.args.table.now c.scan.slot c.loop-core.core) = search rules in
     let passed = c.loop-core.invariant.0 in (
-      ⊎_elim
-          (λ w. rw w.2 (rests_at at passed c.cell_effect-effect.ensures w.1.given.1))
-          (λ w. rw w.5 (works_at at passed c.cell_effect-effect.ensures w.1.given.1 w.4.ensures))
-          c.match-effect.branch,
+      elim c.match-effect.branch [
+        | in-Nothing w ↦ rw w.counts-is (rests_at at passed c.cell_effect-effect.ensures w.in-Nothing.is)
+        | in-Does w ↦ rw w.counts-is (works_at at passed c.cell_effect-effect.ensures w.in-Does.is w.count_cell.ensures)
+      ],
       omega arith,
     )
 
