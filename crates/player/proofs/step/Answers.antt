@@ -18,7 +18,6 @@ use prog.Routine.{Routine}
 use prog.Wp.{Calls, Loops, WpFn, Tables}
 use types.Logic.{Logic, sem}
 use contract.Monad.{Fun, fact}
-use contract.Running.{tables, tables_of}
 use types.Kit.{‵, raw, some, later, ◌⊛◌, ◌$◌, ◌∵◌, !, qed, by, move, keep, drop, use0, use1, split, join, pick, rewrite, fsplit, fsplit3, fjoin, fjoin3, feq_i, suffices, frame, await, done}
 use types.Run.{look, init, store, forget, stop, hop, fld, from, load, lit, of_opd, bin, addr, and_then, no_more, assigns, land, returns, enter, alloc1, alloc0, params1, pass1, pass0, free1, free0}
 use types.Part.{agg, whole, sub, look_in, store_in}
@@ -41,7 +40,6 @@ use denote.Triple.Spec.{Meets, triple_of}
 use denote.Triple.Statement.{Contract, Triple}
 use denote.Triple.Call.{calls_at}
 use denote.Triple.Clauses.{ensured, lasts}
-use denote.Triple.Table.{entered, cited}
 use denote.Triple.Walked.{says, Stays, stay_ref, stay_none, walk_of, Goes-none, Goes-ref, Walks, ends_at, walked, walk_Meets}
 use denote.Exit.{yes}
 use Rattle.laws.specs.Lists.{nth}
@@ -62,17 +60,12 @@ use Rattle.clock.proofs.Next.TheLaws as N'
 use Rattle.clock.specs.contracts.Shown as S
 use Rattle.clock.proofs.Shown.TheLaws as S'
 use Rattle.clock.specs.contracts.next_of as next_of_call
-use Rattle.clock.proofs.next_of.Symbol as next_of_def
 use Rattle.clock.proofs.next_of.Symbol.{name as #clock·next-of}
-use Rattle.clock.proofs.next_of.Met as next_of_thm
 use Rattle.clock.specs.contracts.show as show
-use Rattle.clock.proofs.show.Symbol as show_def
 use Rattle.clock.proofs.show.Symbol.{name as #clock·show}
-use Rattle.clock.proofs.show.Met as show_thm
-use Rattle.player.specs.contracts.step.Key.{name as #player·step}
 use Rattle.player.specs.contracts.step as f
-use Rattle.player.proofs.step.Statement as stated
 use Rattle.player.proofs.step.Code as code
+use Rattle.player.proofs.step.Goals as goal
 
 abbrev Arg : Type 0
 Arg = MutBor Player × (ℕ × Unit {0})
@@ -82,11 +75,13 @@ stayed = (stay_ref (0 ∷ []) tt (plain (λ _. T.the_row)), (stay_none (λ _. u3
 
 -- ---- what a record in memory tells
 -- an array of numbers, as the record has it
+
 array-is : (w : Width) (n : ℕ) (xs : List ℕ) → Is (Array (UInt w) n) (map (λ x. x) xs) (array_val (map (λ x. vint w x) (map (λ x. x) xs)) ∷ [])
     → Is (Array (UInt w) n) xs (array_val (map (λ x. vint w x) xs) ∷ [])
 array-is w n xs is = subst (λ (ys : List ℕ). Is (Array (UInt w) n) ys (array_val (map (λ x. vint w x) ys) ∷ [])) (map-id xs) is
 
 -- each byte of an array is one
+
 byte_fits : (xs : List ℕ) (us : List Val) → shadow (each ℕ u8.own_val xs us) → (k : ℕ) → k < length xs → get_or xs k 0 < 2 ^ 8
 byte_fits [] us s k l = absurd (not-suc-le-zero l)
 byte_fits (x ∷ xs) [] s k l = absurd s
@@ -94,6 +89,7 @@ byte_fits (x ∷ xs) (u ∷ us) s zero l = s.0.1
 byte_fits (x ∷ xs) (u ∷ us) s (suc k) l = byte_fits xs us s.1 k (le_of_suc-le-suc l)
 
 -- the numbers of a record that lies in memory
+
 record Lies (h : Player) : Type 0 where
   pub last : h.last < 2 ^ 32
   pub h' : h.h < 2 ^ 16
@@ -123,20 +119,24 @@ lies h vs is =
 
 -- ---- slots of time
 -- a number of them
+
 abbrev slots : ℕ → Slots
 slots x = record { 0 = x }
 
 -- as they lie in memory
+
 slots-is : (x : ℕ) → x < 2 ^ 16 → Is Sl.the_row (slots x) (Sl'.lowered (slots x) ∷ [])
 slots-is x l =
     let i = LL.owes Sl.the_type Sl'.the_laws (slots x) ((refl, l), tt) in
     subst (Is Sl.the_row (slots x)) ((Sl'.lowers).val_is (slots x) _ i) i
 
 -- their number
+
 number_is : {x : Slots} {vs : List Val} → Is Sl.the_row x vs → Is u16 x.0 (vint w16 x.0 ∷ [])
 number_is {x} {vs} is = (LL.owed Sl.the_type Sl'.the_laws x vs is).0
 
 -- ---- the contracts that the walk cites
+
 abbrev NextOf : {M : Type 1} {𝓤 : Ura M} (𝓛 : Logic 𝓤) (mem : Memory → SProp 𝓤) (run : Routine → Fun 𝓤) → Contract 𝓤
 NextOf 𝓛 mem run = triple_of 𝓛 next_of_call.signature (next_of_call.spec 𝓛 mem run)
 
@@ -333,12 +333,3 @@ module _ {M : Type 1} {𝓤 : Ura M} (𝓛 : Logic 𝓤) (at_mem : Memory → SP
 
   f_meets : Meets 𝓛 f.signature (WpFn 𝓤 H 𝓣.C 𝓣.Λ code.function) (f.spec 𝓛 at_mem run)
   f_meets = walk_Meets 𝓛 f.ended stayed (Goes-ref 𝓛 1 0 tt (plain (λ _. T.the_row)), (Goes-none 𝓛 1 (λ _. u32) yes (λ κs x f. refl), tt)) (f.clauses 𝓛 at_mem run) (WpFn 𝓤 H 𝓣.C 𝓣.Λ code.function) (WpFn-mono 𝓤 H 𝓛.laws 𝓣 code.function) f-walks
-
-pub step_spec : {M : Type 1} → stated.statement M
-unfolding code.routine tables_of
-step_spec 𝓤 𝓛 𝓜 𝓡 =
-    entered 𝓤 𝓛.H (triple_of 𝓛 f.signature (f.spec 𝓛 𝓜.mem 𝓡.run))
-    (tables 𝓤 𝓛.H 𝓜 𝓡 code.env).C (tables 𝓤 𝓛.H 𝓜 𝓡 code.env).Λ #player·step code.function (code.unfolded 𝓤 𝓛.H 𝓜 𝓡)
-    (f_meets 𝓛 𝓜.mem 𝓡.run (tables_of 𝓤 𝓛.H 𝓜 (tables 𝓤 𝓛.H 𝓜 𝓡 code.env))
-    (cited 𝓤 𝓛.H (NextOf 𝓛 𝓜.mem 𝓡.run) 𝓜 𝓡 code.env #clock·next-of next_of_def.routine code.calls-clock::next-of (next_of_thm.met 𝓤 𝓛 𝓜 𝓡))
-    (cited 𝓤 𝓛.H (Answer 𝓛 𝓜.mem 𝓡.run) 𝓜 𝓡 code.env #clock·show show_def.routine code.calls-clock::show (show_thm.met 𝓤 𝓛 𝓜 𝓡)))
