@@ -1,5 +1,4 @@
 mod ApartLaws
-mod Element
 mod StartLaws
 pub mod PlayLaws
 pub mod RecordLaws

@@ -8,4 +8,4 @@ pub cells_of-requires : goal.cells_of-requires
 cells_of-requires c = let s = c.requires in (mul-le-mul s.few_slots s.few_cores, s.room)
 
 pub returns : goal.returns
-returns c = made_record _ _ _ _ _ _ _ c.requires c.offsets_of.ensures c.??Cells-of.ensures
+returns c = made_record _ _ _ _ _ _ _ c.requires c.offsets_of.ensures c.cells_of.ensures
