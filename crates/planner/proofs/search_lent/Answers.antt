@@ -1,0 +1,11 @@
+-- `planner::search_lent` meets its contract: the scan's refusal, or the core on the tasks themselves.
+-- Assumes nothing.
+use native.Mathlib.Omega.{arith}
+use Rattle.planner.proofs.LentLaws.{search_refused, search_same}
+use Rattle.planner.proofs.search_lent.Goals as goal
+
+pub returns-then-verdict-ne0 : goal.returns-then-verdict-ne0
+returns-then-verdict-ne0 c = λ ts s. search_refused s c.if-verdict-ne0.true _ _ _
+
+pub returns : goal.returns
+returns c = λ ts s. search_same s (omega (arith, c.if-verdict-ne0.false)) _ _ _ _ c.search.ensures
