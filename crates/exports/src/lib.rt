@@ -1,4 +1,4 @@
-// The functions that C and Rust link: numbers, records as C lays them out, and slices as pointer and length.
+// What C and Rust link: each function works out what the one of its name in `exports_c` answers. Numbers, records as C lays them out, and slices.
 #![tactic(auto)]
 
 ghost use Rattle.std.specs.Prelude.{◌≡◌, ◌≤◌, length, leb};
@@ -34,8 +34,7 @@ fn tell_search(answer: Answer) -> u64
 }
 
 // The search of the lent tasks: verdict * 2^32 + tries.
-#[unsafe(no_mangle)]
-pub extern "C" fn xiphomera_search(
+pub fn xiphomera_search(
     tasks: &[Task],
     cores: u32,
     engine: u32,
@@ -72,8 +71,7 @@ fn tell_verdict(verdict: Verdict) -> u64
 }
 
 // The check of a table for the lent tasks: class * 2^48 + a * 2^32 + b * 2^16 + c.
-#[unsafe(no_mangle)]
-pub extern "C" fn xiphomera_check(tasks: &[Task], cores: u32, table: &[u8]) -> u64
+pub fn xiphomera_check(tasks: &[Task], cores: u32, table: &[u8]) -> u64
     ensures { result ≡ check_number (check_of cores tasks.now table.now) }
 {
     let m = narrow(cores);
@@ -82,8 +80,7 @@ pub extern "C" fn xiphomera_check(tasks: &[Task], cores: u32, table: &[u8]) -> u
 }
 
 // From the text of a problem to the text of its answer; gives the bytes written, 0 if `out` is too short for the longest answer.
-#[unsafe(no_mangle)]
-pub extern "C" fn xiphomera_plan_text(text: &[u8], out: &mut [u8]) -> usize
+pub fn xiphomera_plan_text(text: &[u8], out: &mut [u8]) -> usize
     ensures { Written (leb 15376 (length out.old)) (answer_to text.now) out.old result out.new }
 {
     planner::plan_text(text, out)
@@ -99,8 +96,7 @@ fn tell(shown: Shown, cells: &mut [u8; 4]) -> u64
 }
 
 // A start for the lent tasks on the record where it stands: verdict * 2^32 + missed, and four cells, one a core.
-#[unsafe(no_mangle)]
-pub extern "C" fn xiphomera_start(
+pub fn xiphomera_start(
     player: &mut Player,
     tasks: &[Task],
     cores: u32,
@@ -116,8 +112,7 @@ pub extern "C" fn xiphomera_start(
 }
 
 // A step of the player's record where it stands: verdict * 2^32 + missed, and four cells, one a core.
-#[unsafe(no_mangle)]
-pub extern "C" fn xiphomera_step(player: &mut Player, tick: u32, cells: &mut [u8; 4]) -> u64
+pub fn xiphomera_step(player: &mut Player, tick: u32, cells: &mut [u8; 4]) -> u64
     ensures { ShownNumber result cells.new (stepped player.old tick) × (player.new ≡ after_step player.old tick) }
 {
     let shown = player::step(player, tick);
