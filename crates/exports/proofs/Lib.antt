@@ -1,2 +1,5 @@
+mod CallLaws
 mod NarrowLaws
+mod NarrowCall
+mod TellCall
 pub mod Calls

@@ -1,3 +1,4 @@
 pub mod TextLaws
 pub mod LentLaws
+pub mod ScanCall
 pub mod Calls

@@ -1,4 +1,5 @@
 mod ApartLaws
+mod Element
 mod StartLaws
 pub mod PlayLaws
 pub mod RecordLaws
