@@ -5,7 +5,7 @@ use native.Mathlib.Nat.{mul-le-mul}
 use native.Mathlib.Omega.{arith}
 use mathlib.Core.Path.{◌≡◌, refl, sym, ap, subst, ◌∙◌}
 use mathlib.Core.Logic.{◌≢◌, ⊎_elim}
-use mathlib.Core.List.{List, [], ◌∷◌}
+use mathlib.Core.List.{List}
 use lib.ListN.{length, replicate, length-replicate, get_or-replicate}
 use borrow.Author.Tests.{lt-leb, le-leb, lt-ltb, le-ltb, ne_eqb}
 use Rattle.laws.specs.Sum.{sum}
@@ -28,7 +28,6 @@ use Rattle.table.proofs.TableLaws.{done_more}
 use Rattle.table.proofs.WorkLaws.{not_needed, needed_few}
 use Rattle.faults.specs.Tests.{counter_at, count_of, count_kind, counted_kind}
 use Rattle.faults.proofs.TestLaws.{count_kind_lem}
-use Rattle.checker.specs.contracts.Verdict.{the_type}
 use Rattle.checker.specs.declared.Verdict.{Verdict}
 use Rattle.checker.specs.declared.Verdict.TheVariants.{Valid, Cell, Job, Refused}
 use Rattle.checker.specs.Checks.{checked_as, instance_for, Checkable, job_count, Counted, cell_fault, CellsTold, job_fault_in}

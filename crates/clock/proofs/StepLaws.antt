@@ -1,6 +1,6 @@
 -- What a step works out of the record's numbers: when it is refused, and what it stores.
 -- Assumes nothing.
-use Rattle.std.proofs.Common.{◌≡◌, ℕ, zero, suc, ◌+◌, ◌-◌, ◌*◌, ◌%◌, ◌^◌, ◌<◌, ◌≤◌, min, Bool, true, false, T, ltb, leb, ◌≢◌, List, [], ◌∷◌, sym, refl, ◌∙◌, mod-lt, mul-le-mul, arith, le→leb, ltb→lt, lt→ltb, leb→le}
+use Rattle.std.proofs.Common.{◌≡◌, ℕ, zero, suc, ◌+◌, ◌-◌, ◌*◌, ◌%◌, ◌^◌, ◌<◌, ◌≤◌, min, Bool, true, false, T, ltb, ◌≢◌, List, [], ◌∷◌, sym, refl, ◌∙◌, mod-lt, mul-le-mul, arith, le→leb, ltb→lt, lt→ltb, leb→le}
 use Rattle.laws.specs.Tests.{every}
 use Rattle.laws.specs.Lists.{tab_from}
 use Rattle.laws.proofs.TestLaws.{every_holds, holds_every}

@@ -1,6 +1,5 @@
 -- `answer::put_slots` meets its contract. The loop's invariant: the lines of the slots passed stand from `at` on. The measure is what is left of the slots.
 -- Assumes nothing.
-use Prim.Native.Nat.{◌-◌}
 use Rattle.laws.specs.Lists.{nth}
 use mathlib.Core.Path.{◌≡◌, refl, ap, ◌∙◌}
 use native.Mathlib.Omega.{arith}

@@ -1,16 +1,14 @@
 -- `answer::write_answer` meets its contract: 05, the slots for verdict 0 and 07 stand one behind the other.
 -- Assumes nothing.
-use Prim.Native.Nat.{◌*◌, ◌≤◌}
 use mathlib.Core.Path.{◌≡◌, sym, ap, ◌∙◌}
 use native.Mathlib.Omega.{arith}
 use borrow.Author.Tests.{not-true, not-false}
 use lib.Dec.{eqb}
 use lib.ListN.{length}
-use lib.Seq.{sets, length-sets}
+use lib.Seq.{length-sets}
 use Rattle.laws.specs.Sum.{gate}
 use Rattle.laws.specs.Lists.{nth}
 use Rattle.laws.proofs.SumLaws.{gate_eq, gate_ne}
-use Rattle.lines.specs.Lines.{line_of}
 use Rattle.answer.specs.Write.{verdict_frame}
 use Rattle.answer.proofs.WriteLaws.{frame_fits, frame_next, can_is, shown_fits, not_written, verdict_line, answer_written}
 use Rattle.answer.proofs.write_answer.Goals as goal

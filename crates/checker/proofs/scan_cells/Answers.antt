@@ -1,6 +1,6 @@
 -- `checker::scan_cells` meets its contract. Both loops' invariant: the cells passed have no fault, and their work is counted.
 -- The measures are what is left of the slots and of the cores. Assumes nothing.
-use Prim.Native.Nat.{◌-◌, ◌<◌}
+use Prim.Native.Nat.{◌<◌}
 use native.Mathlib.Omega.{arith}
 use Rattle.checker.specs.Checks.{At}
 use Rattle.checker.proofs.ScanLaws.{begins, as_far, rests_at, counter_there, fits_at, works_at, stops_at, ends_at}

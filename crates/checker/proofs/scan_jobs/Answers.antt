@@ -1,6 +1,5 @@
 -- `checker::scan_jobs` meets its contract. The loop's invariant: no job of a task passed is faulty. The measure is what is left of the tasks.
 -- Assumes nothing.
-use Prim.Native.Nat.{◌-◌}
 use native.Mathlib.Omega.{arith}
 use borrow.Author.Count.{below_none, below_more}
 use Rattle.checker.proofs.CountLaws.{period_some, few_jobs, row_clean, row_told, rows_told}

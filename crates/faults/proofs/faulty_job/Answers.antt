@@ -1,10 +1,8 @@
 -- `faults::faulty_job` meets its contract. The loop's invariant: no job passed is faulty. The measure is what is left of the jobs.
 -- Assumes nothing.
-use Prim.Native.Nat.{◌-◌}
 use mathlib.Core.Path.{sym, ◌∙◌}
 use native.Mathlib.Omega.{arith}
 use borrow.Author.Count.{below_none, below_more}
-use Rattle.faults.specs.Tests.{counted_kind}
 use Rattle.faults.proofs.TestLaws.{job_found, job_none}
 use borrow.Author.Rules.{rules}
 use Rattle.faults.proofs.faulty_job.Goals as goal

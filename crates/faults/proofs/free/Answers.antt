@@ -1,6 +1,5 @@
 -- `faults::free` meets its contract. The loop's invariant: the task stands on no core passed. The measure is what is left of the cores.
 -- Assumes nothing.
-use Prim.Native.Nat.{◌-◌}
 use native.Mathlib.Omega.{arith}
 use borrow.Author.Count.{below_more}
 use Rattle.faults.proofs.TestLaws.{free_not, free_yes}

@@ -1,6 +1,5 @@
 -- `fill::end_mark` meets its contract. The loop's invariant: no entry passed is odd.
 -- Assumes nothing.
-use Prim.Native.Nat.{◌-◌}
 use borrow.Author.Rules.{rules}
 use borrow.Author.Count.{below_none, below_more}
 use native.Mathlib.Omega.{arith}

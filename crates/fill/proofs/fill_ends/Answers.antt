@@ -1,6 +1,5 @@
 -- `fill::fill_ends` meets its contract. The loop's invariant: the marks passed stand on the grid, and the rest is as it was.
 -- Assumes nothing.
-use Prim.Native.Nat.{◌-◌}
 use borrow.Author.Rules.{rules}
 use native.Mathlib.Omega.{arith}
 use Rattle.laws.proofs.ListLaws.{filled_none, filled_next}

@@ -1,10 +1,8 @@
 -- `fill::fill_entries` meets its contract. The loop's invariant: the entries passed stand on the grid, and the rest is as it was.
 -- Assumes nothing.
-use Prim.Native.Nat.{◌-◌}
 use borrow.Author.Rules.{rules}
 use native.Mathlib.Omega.{arith}
 use Rattle.laws.proofs.ListLaws.{filled_none}
-use Rattle.fill.specs.Grid.{entry_at}
 use Rattle.fill.proofs.FillLaws.{next_stored, all_stored}
 use Rattle.fill.proofs.fill_entries.Goals as goal
 

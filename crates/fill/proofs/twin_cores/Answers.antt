@@ -1,8 +1,6 @@
 -- `fill::twin_cores` meets its contract. The loop's invariant: the rates of each task passed are equal.
 -- Assumes nothing.
-use Prim.Native.Nat.{◌-◌}
 use mathlib.Core.Path.{refl}
-use mathlib.Core.Bool.{true}
 use borrow.Author.Rules.{rules}
 use borrow.Author.Count.{below_none, below_more}
 use borrow.Author.Tests.{eq-eqb, ne_eqb}

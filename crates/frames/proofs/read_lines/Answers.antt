@@ -1,6 +1,5 @@
 -- `frames::read_lines` meets its contract. The loop's invariant: the code's numbers stand for a state from which the rest of the text decides. The measure is what is left of the text.
 -- Assumes nothing.
-use Prim.Native.Nat.{◌-◌}
 use mathlib.Core.Path.{refl, sym, ◌∙◌}
 use native.Mathlib.Omega.{arith}
 use borrow.Author.Tests.{not-true, not-false}

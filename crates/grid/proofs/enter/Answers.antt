@@ -1,6 +1,5 @@
 -- `grid::enter` meets its contract. The loop's invariant: the set has the tasks passed that have work left, from the last on.
 -- Assumes nothing.
-use Prim.Native.Nat.{◌-◌}
 use mathlib.Core.Path.{◌∙◌}
 use native.Mathlib.Omega.{arith}
 use borrow.Author.Rules.{rules}

@@ -2,7 +2,6 @@
 -- Assumes nothing.
 use borrow.Author.Tests.{not-true, not-false}
 use borrow.Author.Rules.{rules}
-use Prim.Native.Nat.{◌-◌}
 use mathlib.Core.Path.{sym, ◌∙◌}
 use Rattle.grid.proofs.ReadLaws.{due_starts, due_later, due_here, due_over}
 use Rattle.grid.proofs.first_due.Goals as goal

@@ -1,6 +1,5 @@
 -- `grid::floor` meets its contract. The loop's invariant: the highest rank on the cores passed.
 -- Assumes nothing.
-use Prim.Native.Nat.{◌-◌}
 use native.Mathlib.Omega.{arith}
 use Rattle.grid.proofs.ReadLaws.{most_none, most_next, floor_is}
 use borrow.Author.Rules.{rules}

@@ -1,11 +1,8 @@
 -- `lines::are_pairs` meets its contract. The loop's invariant: digits alone are passed. The measure is what is left.
 -- Assumes nothing.
-use Prim.Native.Nat.{◌-◌}
-use mathlib.Core.Bool.{true}
 use mathlib.Core.Path.{◌∙◌, sym}
 use native.Mathlib.Omega.{arith}
 use borrow.Author.Tests.{not-true, not-false}
-use Rattle.lines.specs.Lines.{is_digit}
 use Rattle.lines.proofs.LineLaws.{pairs_odd, pairs_other, pairs_all, digits_more}
 use Rattle.lines.proofs.are_pairs.Goals as goal
 

@@ -1,6 +1,5 @@
 -- `lines::frame_at` meets its contract. The loop's invariant: the bytes passed stand in the frame. The measure is what is left of them.
 -- Assumes nothing.
-use Prim.Native.Nat.{◌-◌}
 use mathlib.Core.Path.{refl}
 use native.Mathlib.Omega.{arith}
 use lib.Seq.{slice, length-slice}

@@ -1,6 +1,5 @@
 -- `lines::line_end` meets its contract. The loop's invariant: no line feed is passed. The measure is what is left of the text.
 -- Assumes nothing.
-use Prim.Native.Nat.{◌-◌}
 use native.Mathlib.Omega.{arith}
 use Rattle.lines.proofs.LineLaws.{none_more}
 use Rattle.lines.proofs.line_end.Goals as goal

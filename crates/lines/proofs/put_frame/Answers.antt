@@ -1,6 +1,5 @@
 -- `lines::put_frame` meets its contract. The loop's invariant: the digits of the bytes passed stand from `at` on. The measure is what is left of the frame.
 -- Assumes nothing.
-use Prim.Native.Nat.{◌-◌}
 use mathlib.Core.Path.{◌≡◌, refl, ap, ◌∙◌}
 use native.Mathlib.Omega.{arith}
 use lib.ListN.{length, length-set}

@@ -1,6 +1,5 @@
 -- `search::fill_left` meets its contract. The loop's invariant: the counters passed hold their job's work, and the others are as they were.
 -- Assumes nothing.
-use Prim.Native.Nat.{◌-◌}
 use mathlib.Core.Path.{refl}
 use borrow.Author.Rules.{rules}
 use native.Mathlib.Omega.{arith}

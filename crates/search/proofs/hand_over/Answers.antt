@@ -1,11 +1,9 @@
 -- `search::hand_over` meets its contract. The loop's invariant: the cells passed are what is to be left, and the others are as they were.
 -- Assumes nothing.
-use Prim.Native.Nat.{◌-◌}
 use borrow.Author.Rules.{rules}
 use native.Mathlib.Omega.{arith}
 use lib.ListN.{length-set}
 use Rattle.laws.proofs.ListLaws.{filled_none}
-use Rattle.search.specs.Told.{cell_left}
 use Rattle.fill.proofs.FillLaws.{next_stored, all_stored}
 use Rattle.search.proofs.hand_over.Goals as goal
 

@@ -1,10 +1,8 @@
 -- `tasks::list_refusal` meets its contract. The loop's invariant: no task passed is refused. The measure is what is left of the tasks.
 -- Assumes nothing.
-use Prim.Native.Nat.{◌-◌}
 use mathlib.Core.Path.{sym, ap, ◌∙◌}
 use native.Mathlib.Omega.{arith}
 use borrow.Author.Count.{below_none, below_more}
-use Rattle.tasks.specs.Task.{task_at}
 use Rattle.tasks.specs.Refusal.{task_refusal}
 use Rattle.tasks.proofs.AnswerLaws.{list_refused, list_passed}
 use Rattle.tasks.proofs.list_refusal.Goals as goal

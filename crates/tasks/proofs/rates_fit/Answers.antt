@@ -1,6 +1,6 @@
 -- `tasks::rates_fit` meets its contract. The loop's invariant: no rate passed is over the most. The measure is what is left of the four.
 -- Assumes nothing.
-use Prim.Native.Nat.{◌-◌, ◌≤◌}
+use Prim.Native.Nat.{◌≤◌}
 use mathlib.Core.Path.{◌≡◌, subst}
 use native.Mathlib.Omega.{arith}
 use borrow.Author.Count.{below_none, below_more}

@@ -1,11 +1,9 @@
 -- `tasks::table_length` meets its contract. The loop's invariant: h is the least common multiple of the periods passed, and at most 1024.
 -- The measure is what is left of the tasks. Assumes nothing.
-use Prim.Native.Nat.{◌+◌, ◌-◌}
-use mathlib.Core.Path.{◌≡◌, refl}
+use Prim.Native.Nat.{◌+◌}
+use mathlib.Core.Path.{refl}
 use native.Mathlib.Omega.{arith}
 use Rattle.laws.specs.Lcm.{lcms_of}
-use Rattle.tasks.specs.Task.{rows}
-use Rattle.tasks.specs.Refusal.{period_at}
 use Rattle.tasks.proofs.SoundLaws.{rows_length}
 use Rattle.tasks.proofs.AnswerLaws.{length_next, length_over, length_done}
 use Rattle.tasks.proofs.table_length.Goals as goal

@@ -1,8 +1,8 @@
 -- `walk::cell` and `walk::finish_slot` meet their contracts, by one proof: each goal is a law of the turn that it belongs to.
 -- Assumes nothing.
 use native.Mathlib.Omega.{arith}
-use Rattle.grid.proofs.ReadLaws.{at_slot, starves_tells}
-use Rattle.walk.proofs.TurnLaws.{first_at, cell_in, begins, task_in, task_few, rises, passes, backs, ends, stops, idle_barred, idle_stops, idle_starves, idles, stands_without, stands_core, stands_slot, core_left, goes_on, slot_left, starved, founds, next_slots}
+use Rattle.grid.proofs.ReadLaws.{starves_tells}
+use Rattle.walk.proofs.TurnLaws.{first_at, begins, task_in, task_few, rises, passes, backs, ends, stops, idle_barred, idle_stops, idle_starves, idles, stands_without, stands_core, stands_slot, core_left, goes_on, slot_left, starved, founds, next_slots}
 use Rattle.walk.proofs.+cell_finish_slot.Goals as goal
 
 pub cell-loop-rest-init : goal.cell-loop-rest-init
