@@ -45,6 +45,7 @@ pub fn counter_of(place: u8, job: u16) -> usize
 }
 
 // The kind of fault of a task of the list in a cell, by the tests of RULES 6.3 in their order; 0 if it passes them.
+#[tactic(auto, unfolding(tasks::specs::Refusal::unless))]
 pub fn kind(opens: bool, rated: bool, free: bool) -> u8
     ensures { result ≡ known_kind opens rated free }
 {

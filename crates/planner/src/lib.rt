@@ -110,7 +110,8 @@ pub fn plan_text(text: &[u8], out: &mut [u8]) -> usize
 {
     let mut table = [0; 4096];
     let problem = frames::read_problem(text);
-    if problem.refusal != 0 {
+    let refused = problem.refusal != 0;
+    if refused {
         return answer::write_answer(problem.refusal, 0, 0, 0, &table, out);
     }
     let list = problem.list;
