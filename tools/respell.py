@@ -15,7 +15,7 @@ import sys
 
 WORD = re.compile(r"[A-Za-z0-9_'\u2032\u0370-\u03ff-]*[A-Za-z][A-Za-z0-9_'\u2032\u0370-\u03ff-]*")
 DECLARES = re.compile(r"^\s*(?:(?:pub|abbrev|unfoldable)\s+)*([A-Za-z][A-Za-z0-9_'\u2032-]*(?:\s+[A-Za-z][A-Za-z0-9_'\u2032-]*)*)\s*:(?!:)(?:\s|$)")
-MADE = re.compile(r"^(Need|need|returns|loop|if|while|match|then|else|in_|before)(-|$)|-requires|-preserved|-result$|^cast-|^index-|^overflow")
+MADE = re.compile(r"^(Need|need|returns|loop|if|while|match|else|in_)(-|$)|-requires|-preserved|-result$|^cast-|^index-|^overflow")
 # where the rule would give two names of one file the same spelling
 APART = {
     "slot-of": "the_slot",

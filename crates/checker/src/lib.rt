@@ -121,7 +121,8 @@ pub fn check_table(list: TaskList, m: u8, table: &[u8]) -> Verdict
     match soundness {
         Soundness::Refused(number) => Verdict::Refused(number),
         Soundness::Sound(len) => {
-            if table.len() < (len.0 as usize) * (m as usize) {
+            let short = table.len() < (len.0 as usize) * (m as usize);
+            if short {
                 return Verdict::Refused(tasks::BAD_BUFFER);
             }
             let mut counts: [u16; 16384] = [0; 16384];

@@ -21,7 +21,7 @@ stays_says κs last position age verdict last' position' age' verdict' r M 𝓤 
 pub stays_only : (last : ℕ) (position age : Slots) (verdict : ℕ) (r r' : Next) → Stays last position age verdict r → Stays last position age verdict r' → r ≡ r'
 stays_only last position age verdict r r' = only
 
--- ---- next_of_call
+-- ---- next_of
 abbrev pub NextOf : ℕ → Slots → Slots → Slots → ℕ → ℕ → ℕ → Next → Type 0
 NextOf last h position age m n tick r = r ≡ next_of last h.0 position.0 age.0 m n tick
 

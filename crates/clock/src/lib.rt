@@ -117,7 +117,8 @@ pub fn next_of(last: u32, h: Slots, position: Slots, age: Slots, m: u8, n: u8, t
     ensures { result ≡ next_of last h.0 position.0 age.0 m n tick }
 {
     let refusal = step_refusal(last, h, position, age, m, n, tick);
-    if refusal != 0 {
+    let refused = refusal != 0;
+    if refused {
         return stays(last, position, age, refusal);
     }
     let e = elapsed_of(tick, last);

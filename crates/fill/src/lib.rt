@@ -29,6 +29,7 @@ const MARKS: usize = ENDS_AT - RATES_AT;
 const RATED_BITS: usize = (RATED_AT - EVEN_AT) * 4;
 
 // The grid's entry for the task at place v in a slot: twice the counter of its job, and 1 more where nothing of the job is to come.
+#[tactic(auto, using(crate::proofs::FillLaws::few_jobs, crate::proofs::FillLaws::entry_end, crate::proofs::FillLaws::entry_early, crate::proofs::FillLaws::entry_closed))]
 fn entry(len: Slots, t: Task, v: u16, slot: Slots) -> u16
     requires { Fit len.0 t × (v < 16) × (slot.0 < len.0) }
     ensures { result ≡ entry_for len.0 t (suc v) slot.0 }
@@ -146,6 +147,7 @@ fn quick_mark(engine: u8, test: bool) -> u16
 }
 
 // 1 if a rate is positive.
+#[tactic(auto, using(laws::proofs::SumLaws::gate_ge, laws::proofs::SumLaws::gate_lt), unfolding(crate::specs::Grid::rated_bit))]
 fn rated_bit(rate: u8) -> u16
     ensures { (result ≡ rated_bit rate) × (result ≤ 1) }
 {

@@ -74,6 +74,7 @@ pub struct Problem {
 }
 
 // Whether a frame has the number of the next task, if it has a task's number.
+#[tactic(auto, using(crate::proofs::PlaceLaws::number_over, crate::proofs::PlaceLaws::number_next, crate::proofs::PlaceLaws::number_none))]
 fn right_number(n: u8, kind: u8, number: u8) -> bool
     ensures { result ≡ right_number n kind number }
 {
@@ -174,7 +175,8 @@ fn read_lines(text: &[u8]) -> Problem
         last = frame;
         at = to + 1;
     }
-    if last[0] != END {
+    let unended = last[0] != END;
+    if unended {
         return blank(OUT_OF_PLACE);
     }
     p

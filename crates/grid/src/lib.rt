@@ -151,6 +151,7 @@ pub fn floor(grid: &[u16; 17499], table: &[u8; 4096], first: usize, core: usize)
 }
 
 // Whether a task's job has no work left, if this is its highest-numbered slot.
+#[tactic(auto, using(crate::proofs::ReadLaws::settled_later, crate::proofs::ReadLaws::settled_end))]
 fn settled(grid: &[u16; 17499], left: &[u16; 16385], slot: usize, task: usize) -> bool
     requires { OnGrid grid.now slot × (task < tasks_on grid.now) }
     ensures { result ≡ settled_on grid.now left.now slot task }

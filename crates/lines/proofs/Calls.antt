@@ -52,7 +52,7 @@ line_refusal_says κs text from to text' from' to' r M 𝓤 𝓛 mem run = refl
 pub line_refusal_only : (text : List ℕ) (from to r r' : ℕ) → LineRefusal text from to r → LineRefusal text from to r' → r ≡ r'
 line_refusal_only text from to r r' = only
 
--- ---- frame_at_call
+-- ---- frame_at
 abbrev pub FrameAt : List ℕ → ℕ → ℕ → List ℕ → Type 0
 FrameAt text from to r = r ≡ ten_bytes (bytes_of (slice from to text))
 

@@ -25,7 +25,8 @@ fn search_lent(lent: Lent, m: u8, engine: u8, limit: u32, table: &mut [u8]) -> A
     ensures { (ts : List Task) → Scanned m ts lent → searched_as result table.new ≡ search_of m ts engine limit table.old }
 {
     let verdict = lent.refusal;
-    if verdict != 0 {
+    let refused = verdict != 0;
+    if refused {
         return Answer { verdict, tries: 0 };
     }
     let list = lent.list;
@@ -45,7 +46,8 @@ fn check_lent(lent: Lent, m: u8, table: &[u8]) -> Verdict
     ensures { (ts : List Task) → Scanned m ts lent → checked_as result ≡ check_of m ts table.now }
 {
     let number = lent.refusal;
-    if number != 0 {
+    let refused = number != 0;
+    if refused {
         return Verdict::Refused(number);
     }
     let list = lent.list;
@@ -65,7 +67,8 @@ fn start_lent(p: Player, lent: Lent, m: u8, table: &[u8], tick: u32) -> Started
     ensures { (ts : List Task) → Scanned m ts lent → (result.shown ≡ started m ts table.now tick) × (result.player ≡ after_start m ts table.now tick p) }
 {
     let refusal = lent.refusal;
-    if refusal != 0 {
+    let refused = refusal != 0;
+    if refused {
         let shown = Shown {
             verdict: refusal,
             cells: [0; 4],

@@ -23,17 +23,17 @@ rank_same n (suc v) zero i j e = omega arith
 rank_same n (suc v) (suc w) i j e = e
 
 -- of two lists of values one comes before the other, or they are the same
-before-or : (n : ℕ) (s t : List ℕ) → length s ≡ length t → ((c : ℕ) → c < length s → nth s c ≤ n) → ((c : ℕ) → c < length t → nth t c ≤ n)
+before_or : (n : ℕ) (s t : List ℕ) → length s ≡ length t → ((c : ℕ) → c < length s → nth s c ≤ n) → ((c : ℕ) → c < length t → nth t c ≤ n)
     → (s ≡ t) ⊎ (Before (rank_of n) s t ⊎ Before (rank_of n) t s)
-before-or n [] [] e i j = inl refl
-before-or n [] (w ∷ t) e i j = absurd (omega arith)
-before-or n (v ∷ s) [] e i j = absurd (omega arith)
-before-or n (v ∷ s) (w ∷ t) e i j = ⊎_elim
+before_or n [] [] e i j = inl refl
+before_or n [] (w ∷ t) e i j = absurd (omega arith)
+before_or n (v ∷ s) [] e i j = absurd (omega arith)
+before_or n (v ∷ s) (w ∷ t) e i j = ⊎_elim
     (λ l. inr (inl (inl l)))
     (λ g. ⊎_elim
     (λ l. inr (inr (inl l)))
     (λ h. go (rank_same n v w (i 0 (zero-lt-suc (length s))) (j 0 (zero-lt-suc (length t))) (omega arith))
-    (before-or n s t (suc_inj e) (λ c l. i (suc c) (suc-le-suc l)) (λ c l. j (suc c) (suc-le-suc l))))
+    (before_or n s t (suc_inj e) (λ c l. i (suc c) (suc-le-suc l)) (λ c l. j (suc c) (suc-le-suc l))))
     (lt_or_ge (rank_of n w) (rank_of n v)))
     (lt_or_ge (rank_of n v) (rank_of n w))
   where
@@ -46,4 +46,4 @@ before-or n (v ∷ s) (w ∷ t) e i j = ⊎_elim
 -- two first tables are the same
 pub first_one : (P : Instance) (s t : List ℕ) → First (rank P) (Table P) s → First (rank P) (Table P) t → s ≡ t
 first_one P s t (g, least) (h, least') = ⊎_elim (λ e. e) (λ x. absurd (⊎_elim (least' s g) (least t h) x))
-    (before-or P.tasks s t (g.size ∙ sym h.size) (λ c l. g.valid.known c (omega (arith, g.size))) (λ c l. h.valid.known c (omega (arith, h.size))))
+    (before_or P.tasks s t (g.size ∙ sym h.size) (λ c l. g.valid.known c (omega (arith, g.size))) (λ c l. h.valid.known c (omega (arith, h.size))))

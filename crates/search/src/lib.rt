@@ -57,6 +57,7 @@ const NONE: u8 = 13;
 const STOPPED: u8 = 14;
 
 // What the walk's number tells, with the tries counted from `start` on.
+#[tactic(auto, using(crate::proofs::ToldLaws::tells_none, crate::proofs::ToldLaws::tells_found, crate::proofs::ToldLaws::tells_stopped))]
 fn walk_answer(w: u64, start: u32) -> Answer
     requires { start ≤ w % 4294967296 }
     ensures { (e : End) (k : ℕ) → w ≡ walk_number e k → k < 4294967296 → result ≡ walk_answer e k start }
@@ -126,6 +127,7 @@ fn refused(number: u8) -> Answer
 }
 
 // The refusal of an engine, or of a buffer too short for n cells; or 0.
+#[tactic(auto, using(crate::proofs::AnswerLaws::engine_refused, crate::proofs::AnswerLaws::buffer_refused, crate::proofs::AnswerLaws::none_refused))]
 fn call_refusal(engine: u8, room: usize, n: usize) -> u8
     ensures { result ≡ call_refusal engine room n }
 {

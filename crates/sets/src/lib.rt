@@ -51,6 +51,7 @@ pub fn on_cores(set: u64) -> u64
 }
 
 // The tasks of a set from a rank on; the rank of a task is one more than its number here.
+#[tactic(auto, using(crate::proofs::SetLaws::from_first, crate::proofs::SetLaws::from_last, crate::proofs::SetLaws::from_between))]
 pub fn from_rank(set: u64, rank: usize) -> u64
     ensures { result ≡ from_rank set rank }
 {

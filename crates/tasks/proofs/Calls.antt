@@ -19,7 +19,7 @@ use Rattle.tasks.specs.contracts.add_task as add_task_call
 use Rattle.tasks.specs.contracts.task_refusal as task_refusal_call
 use Rattle.tasks.specs.contracts.test_list as test_list_call
 
--- ---- work_in_call
+-- ---- work_in
 work_in_says : (κs rate slots rate' slots' r : _) → Says (λ M 𝓤 𝓛 mem run. work_in_call.ensures-1 𝓛 κs mem run rate slots rate' slots' r) (r ≡ work_in rate slots)
 work_in_says κs rate slots rate' slots' r M 𝓤 𝓛 mem run = refl
 

@@ -43,8 +43,8 @@ stopped_gives : (l t l' : List ℕ) (u : ℕ) → GivenBack l (state Stopped t l
 stopped_gives l t l' u z = absurd (stopped_apart z)
 
 -- a walk that goes on from where another found nothing
-then-gives : (l : List ℕ) (r : State) (k : State → State) → (r.end ≡ NoneFound → GivenBack l (k r)) → GivenBack l (unless_ended r.end r k)
-then-gives l r k h = go r.end refl
+then_gives : (l : List ℕ) (r : State) (k : State → State) → (r.end ≡ NoneFound → GivenBack l (k r)) → GivenBack l (unless_ended r.end r k)
+then_gives l r k h = go r.end refl
   where
     go : (e : End) → r.end ≡ e → GivenBack l (unless_ended e r k)
     go Found q z = absurd (found_apart (sym q ∙ z))
@@ -58,7 +58,7 @@ module _ (grid : List ℕ) (limit first slot core sets : ℕ) (next : Onward) (g
   try_gives zero floor t l v u = either_gives l (bars_idle grid sets core) _ _ (λ _. refl) (either_gives l (eqb u limit) _ _ (stopped_gives l t l u) (gives sets (set t (first + core) 0) l (u + 1)))
   try_gives (suc j) floor t l v u = either_gives l (has sets v core && leb floor (v + 1)) _ _
       (either_gives l (eqb u limit) _ _ (stopped_gives l t l u)
-      (then-gives l (placed grid limit first slot core sets next t l v u) _ (λ q z.
+      (then_gives l (placed grid limit first slot core sets next t l v u) _ (λ q z.
       try_gives j floor _ _ (v + 1) _ z ∙ ap (λ x. set x (counter_on grid slot v) (nth l (counter_on grid slot v))) (gives _ _ _ _ q) ∙ given_back l (counter_on grid slot v) _)))
       (try_gives j floor t l (v + 1) u)
 

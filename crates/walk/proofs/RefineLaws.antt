@@ -66,18 +66,18 @@ and_left false b h = h
 module _ {b n c : ℕ} (lc : c < n) (t : List ℕ) {t₁ : List ℕ} {s : State} {a : Outcome} (shows : Shows b n (suc c) t₁ s a) {w : ℕ} (ew : nth t₁ c ≡ w)
     (et : take c t₁ ≡ take c t) (el : length t₁ ≡ length t) (room : c < length t) (g : ℕ → Outcome) where
   -- the cells before
-  before-prefix : take c s.table ≡ take c t
-  before-prefix = sym (take-take c (suc c) s.table (omega arith)) ∙ ap (take c) shows.prefix ∙ take-take c (suc c) t₁ (omega arith) ∙ et
+  before_prefix : take c s.table ≡ take c t
+  before_prefix = sym (take-take c (suc c) s.table (omega arith)) ∙ ap (take c) shows.prefix ∙ take-take c (suc c) t₁ (omega arith) ∙ et
 
   -- the cell itself
-  before-cell : nth s.table c ≡ w
-  before-cell = sym (get_or-take (suc c) s.table c 0 (omega arith)) ∙ ap (λ x. nth x c) shows.prefix ∙ get_or-take (suc c) t₁ c 0 (omega arith) ∙ ew
+  before_cell : nth s.table c ≡ w
+  before_cell = sym (get_or-take (suc c) s.table c 0 (omega arith)) ∙ ap (λ x. nth x c) shows.prefix ∙ get_or-take (suc c) t₁ c 0 (omega arith) ∙ ew
 
-  before-cells : take (n - c) (drop c s.table) ≡ w ∷ take (n - suc c) (drop (suc c) s.table)
-  before-cells =
+  before_cells : take (n - c) (drop c s.table) ≡ w ∷ take (n - suc c) (drop (suc c) s.table)
+  before_cells =
       ap (λ k. take k (drop c s.table)) more
       ∙ ap (take (suc (n - suc c))) (drop-cons s.table c 0 (omega (arith, shows.long)))
-      ∙ ap (λ x. x ∷ take (n - suc c) (drop (suc c) s.table)) before-cell
+      ∙ ap (λ x. x ∷ take (n - suc c) (drop (suc c) s.table)) before_cell
     where
       more : n - c ≡ suc (n - suc c)
       more = omega arith
@@ -87,13 +87,13 @@ module _ {b n c : ℕ} (lc : c < n) (t : List ℕ) {t₁ : List ℕ} {s : State}
   unfolding told_at
   below_ended x = record {
     answer = go s.end x shows.answer;
-    prefix = before-prefix;
+    prefix = before_prefix;
     long = shows.long ∙ el;
     most = shows.most;
   }
     where
       go : (e : End) → (e ≡ NoneFound → ⊥) → told_at e n (suc c) s.table s.tries ≡ a → told_at e n c s.table s.tries ≡ bnext w a g
-      go Found x h = ap (λ z. ended (found z s.tries)) before-cells ∙ ap (λ z. bnext w z g) h
+      go Found x h = ap (λ z. ended (found z s.tries)) before_cells ∙ ap (λ z. bnext w z g) h
       go NoneFound x h = absurd (x refl)
       go Stopped x h = ap (λ z. bnext w z g) h
 
@@ -235,7 +235,7 @@ module _ {P : Instance} (small : Small P) (e b : ℕ) (grid : List ℕ) (ready :
               (end_cases r.end
               (λ w. record {
                 answer = ap (λ y. told_at y (cells P) (first + core) r.table r.tries) w ∙ sym (below_none (cell_in stands) t₀ (tells x) (put_cell t et el 0) (put_prefix t et el 0) (put_long t et el 0) room ends w);
-                prefix = before-prefix (cell_in stands) t₀ (tells x) (put_cell t et el 0) (put_prefix t et el 0) (put_long t et el 0) room ends;
+                prefix = before_prefix (cell_in stands) t₀ (tells x) (put_cell t et el 0) (put_prefix t et el 0) (put_long t et el 0) room ends;
                 long = (tells x).long ∙ put_long t et el 0;
                 most = (tells x).most;
               })
@@ -321,7 +321,7 @@ module _ {P : Instance} (small : Small P) (e b : ℕ) (grid : List ℕ) (ready :
               (back grid b first slot core sets next j (floor_on grid t₀ first core) t l v u p z r refl w
               ∙ (λ i. try_from grid b first slot core sets next j (floor_on grid t₀ first core) r.table (again w i) (add-one v i) r.tries))
               (ap (λ a. bnext (suc v) a others) value_is ∙ below_none (cell_in stands) t₀ tells_below cell_is (put_prefix t et el (v + 1)) (put_long t et el (v + 1)) room others w)
-              (ih r.table r.tries (before-prefix (cell_in stands) t₀ tells_below cell_is (put_prefix t et el (v + 1)) (put_long t et el (v + 1)) room others)
+              (ih r.table r.tries (before_prefix (cell_in stands) t₀ tells_below cell_is (put_prefix t et el (v + 1)) (put_long t et el (v + 1)) room others)
               (tells_below.long ∙ put_long t et el (v + 1)) tells_below.most))
               (λ w. shows_same {s = r}
               (tried grid b first slot core sets next j (floor_on grid t₀ first core) t l v u p z r refl ∙ ended_stays r.end r _ w)

@@ -47,11 +47,11 @@ module _ (L t : ℕ) (τ : Task) (p : ℕ) (placed : p ≡ place L τ.offset.0 t
       (λ i. record { opens = false; job = job_is i; coming = record { 0 = 0 } })
 
   -- below it: open, with what the closed form says to come
-  pub before-deadline : Fit L τ → t < L → in_period < τ.deadline.0 → (below : ℕ) → below ≡ min in_period t
+  pub before_deadline : Fit L τ → t < L → in_period < τ.deadline.0 → (below : ℕ) → below ≡ min in_period t
       → (c : Slots) → c.0 ≡ min (τ.deadline.0 - 1 - below) (L - 1 - t)
       → record { opens = true; job = p / τ.period.0; coming = c } ≡ in_slot L τ t
   unfolding in_slot gate
-  before-deadline fit there l below el c ec =
+  before_deadline fit there l below el c ec =
       let l' : place L τ.offset.0 t % τ.period.0 < τ.deadline.0 = omega (arith, in_period_is) in
       let e : c.0 ≡ to_come L τ.offset.0 τ.deadline.0 τ.period.0 (job_at L τ.offset.0 τ.period.0 t) t =
       ec ∙ ap (λ x. min (τ.deadline.0 - 1 - x) (L - 1 - t)) (el ∙ ap (λ x. min x t) in_period_is) ∙ sym (coming_is fit.cyclic τ.offset.0 t there l') in

@@ -16,7 +16,7 @@ use Rattle.windows.specs.Answer.{in_slot}
 use Rattle.windows.proofs.AnswerLaws.{told_opens, told_job, told_coming, told_last}
 use Rattle.windows.specs.contracts.open_in as open_in_call
 
--- ---- open_in_call
+-- ---- open_in
 abbrev pub OpenIn : Slots → Task → Slots → InSlot → Type 0
 OpenIn len t slot r = r ≡ in_slot len.0 t slot.0
 

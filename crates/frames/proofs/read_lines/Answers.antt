@@ -40,8 +40,8 @@ loop-at-preserved c =
     (sym c.line_refusal-refusal.ensures ∙ c.if-refusal-ne0.false) c.frame_at-frame.ensures _ (sym c.in_place.ensures ∙ not-false _ c.if-not-in_place.false-raw)
     (c.take_frame-p.ensures R.state R.held R.frame _ c.frame_at-frame.ensures)
 
-pub returns-then-last-ne-END : goal.returns-then-last-ne-END
-returns-then-last-ne-END c = c.blank-then-last-ne-END.ensures ∙ no_end _ _ _ _ c.loop-at.invariant c.loop-at-test.false (λ e. omega (arith, e, c.if-last-ne-END.true))
+pub returns-then-unended : goal.returns-then-unended
+returns-then-unended c = c.blank-then-unended.ensures ∙ no_end _ _ _ _ c.loop-at.invariant c.loop-at-test.false (λ e. omega (arith, e, c.if-unended.true))
 
 pub returns : goal.returns
-returns c = read_all _ _ _ _ c.loop-at.invariant c.loop-at-test.false (omega (arith, c.if-last-ne-END.false))
+returns c = read_all _ _ _ _ c.loop-at.invariant c.loop-at-test.false (omega (arith, c.if-unended.false))

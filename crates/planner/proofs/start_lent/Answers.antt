@@ -4,8 +4,8 @@ use native.Mathlib.Omega.{arith}
 use Rattle.planner.proofs.LentLaws.{start_refused, start_same}
 use Rattle.planner.proofs.start_lent.Goals as goal
 
-pub returns-then-refusal-ne0 : goal.returns-then-refusal-ne0
-returns-then-refusal-ne0 c = λ ts s. start_refused s c.if-refusal-ne0.true _ _ _
+pub returns-then-refused : goal.returns-then-refused
+returns-then-refused c = λ ts s. start_refused s c.if-refused.true _ _ _
 
 pub returns : goal.returns
-returns c = λ ts s. start_same s (omega (arith, c.if-refusal-ne0.false)) _ _ _ _ _ c.start_record.ensures
+returns c = λ ts s. start_same s (omega (arith, c.if-refused.false)) _ _ _ _ _ c.start_record.ensures

@@ -2,7 +2,7 @@
 -- Assumes nothing.
 use native.Mathlib.Nat.{lt_of_le_of_lt, div-mul-le_self}
 use borrow.Author.Rules.{rules}
-use Rattle.windows.proofs.AnswerLaws.{past_deadline, before-deadline}
+use Rattle.windows.proofs.AnswerLaws.{past_deadline, before_deadline}
 use Rattle.windows.proofs.open_in.Goals as goal
 
 pub overflow_mul-in_period : goal.overflow_mul-in_period
@@ -15,4 +15,4 @@ pub returns-then-t-in_period : goal.returns-then-t-in_period
 returns-then-t-in_period c = search (rules, past_deadline)
 
 pub returns : goal.returns
-returns c = search (rules, before-deadline)
+returns c = search (rules, before_deadline)
