@@ -1,4 +1,4 @@
-/* The calls as a board's program links them: include/xiphomera.h and the archive of the crate `exports`. */
+/* The calls as a board's program links them: include/xiphomera.h and the archive of the crate `exports_c`. */
 #include "xiphomera.h"
 
 #include <stdio.h>
