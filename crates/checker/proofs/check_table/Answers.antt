@@ -11,8 +11,6 @@ overflow_mul-short c = omega (arith, few_cells _ _ c.test_list-soundness.ensures
 pub returns-then-short : goal.returns-then-short
 returns-then-short c = short_told _ _ _ c.test_list-soundness.ensures c.in-Sound.is c.if-short.true
 
--- no refusal
-
 pub scan_cells-cells-requires : goal.scan_cells-cells-requires
 scan_cells-cells-requires c =
     let ready : (Checkable c.args.list c.args.m c.in-Sound.len.0 c.args.table.now) = ready_there _ _ _ c.test_list-soundness.ensures c.in-Sound.is c.if-short.false in

@@ -14,8 +14,6 @@ scan-init c = (as_far (begins c.requires.1) (omega arith), omega arith)
 pub loop-core-init : goal.loop-core-init
 loop-core-init c = (as_far c.scan.invariant.0 (omega arith), omega arith)
 
--- the cell of a turn
-
 pub offset_bounds-counts-counter : goal.offset_bounds-counts-counter
 offset_bounds-counts-counter c =
     let at : (At c.args.list c.args.m c.args.len.0 c.args.table.now c.scan.slot c.loop-core.core) = search rules in

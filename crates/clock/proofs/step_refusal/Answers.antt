@@ -1,6 +1,5 @@
 -- `clock::step_refusal` meets its contract: each test before the last leaves 12, the last 15.
 -- Assumes nothing.
--- where every test has passed
 use Rattle.std.proofs.Common.{sym, arith}
 use Rattle.clock.proofs.StepLaws.{Unspoilt, refused_spoilt, refused_past, not_refused}
 use Rattle.clock.proofs.step_refusal.Goals as goal

@@ -1,6 +1,5 @@
 -- `lines::frame_refusal` meets its contract: the sort of the kind, and then the length, decide as in the definition.
 -- Assumes nothing.
--- the sort that each arm has
 use mathlib.Core.Path.{◌≡◌, sym, ap, ◌∙◌}
 use Rattle.tasks.specs.Refusal.{unless}
 use Rattle.lines.specs.Frame.{sort_of}
