@@ -1,7 +1,7 @@
 #!/usr/bin/env python3
 """Spells the repository's own names of specs/ and proofs/ as today's Rattle spells names: words in snake case, types and modules in camel case.
 
-usage: tools/respell.py LANDED    at the top of the repository, once, right after port.py; LANDED is a checkout of the commit before it
+usage: tools/respell.py LANDED    at the top of the repository, once, right after the kit's port/port.py; LANDED is a checkout of the commit before it (docs/PORT.md)
 
 A name that a file of specs/ or a law file of proofs/ declares gets `_` for each `-` and for each inner capital, unless it
 begins with a capital letter. Names of the library and those that the check makes (`loop-i`, `returns-2`) stay, and so do all

@@ -1,4 +1,4 @@
-// What C and Rust link: each function works out what the one of its name in `exports_c` answers. Numbers, records as C lays them out, and slices.
+// The functions behind the calls of C and Rust: each is called by the one of its name in `exports_c`. Numbers, records as C lays them out, and slices.
 #![tactic(auto)]
 
 ghost use Rattle.std.specs.Prelude.{◌≡◌, ◌≤◌, length, leb};
