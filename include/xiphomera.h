@@ -9,7 +9,7 @@
  *
  * Tasks and cores count from 1, slots and jobs from 0: task k is tasks[k - 1]. H is the least common multiple of all
  * periods, m the number of cores. The rules are docs/RULES.md. The bytes of stack that a call takes stand with it, as
- * measured on x86-64 (riscv64 takes up to a third more); no call takes any other memory. */
+ * measured on x86-64 (riscv64 took up to two fifths more); no call takes any other memory. */
 #ifndef XIPHOMERA_H
 #define XIPHOMERA_H
 

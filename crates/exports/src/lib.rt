@@ -1,4 +1,4 @@
-// The functions behind the calls of C and Rust: each is called by the one of its name in `exports_c`. Numbers, records as C lays them out, and slices.
+// The functions behind the calls of C and Rust: each public one is called by the one of its name in `exports_c`. Numbers, records as C lays them out, and slices.
 #![tactic(auto)]
 
 ghost use Rattle.std.specs.Prelude.{◌≡◌, ◌≤◌, length, leb};
