@@ -2,5 +2,3 @@ pub mod WindowLaws
 pub mod ComingLaws
 pub mod SoundLaws
 pub mod AnswerLaws
-pub mod NumberLaws
-pub mod Calls

@@ -1,4 +1,4 @@
--- What a sound list has: its ranges, task by task, the length of its table, and jobs that are the table's. Laws of lists as numbers, too.
+-- What a sound list has: its ranges, task by task, the length of its table, and jobs that are the table's.
 -- Assumes nothing.
 use Prim.Native.Nat.{ℕ, zero, suc, ◌/◌, ◌≤◌, ◌<◌, ◌∣◌}
 use mathlib.Core.Path.{◌≡◌, refl, sym, ap, subst}
@@ -11,26 +11,16 @@ use lib.ListN.{length}
 use borrow.Author.Tests.{le-ltb}
 use Rattle.laws.specs.Lists.{nth}
 use Rattle.laws.specs.Lcm.{IsLcms}
-use Rattle.laws.proofs.ListLaws.{tab_length, tab_at, first_zero}
+use Rattle.laws.proofs.ListLaws.{first_zero}
 use Rattle.laws.proofs.TestLaws.{all_at}
 use Rattle.laws.proofs.LcmLaws.{lcms_of_lem, lcms_divides, dvd_whole}
 use Rattle.tasks.specs.declared.Rates.{Rates}
 use Rattle.tasks.specs.declared.Task.{Task}
-use Rattle.tasks.specs.declared.TaskList.{TaskList}
-use Rattle.tasks.specs.Task.{rate, no_task, task, task_at, rows}
+use Rattle.tasks.specs.Task.{rate, task}
 use Rattle.tasks.specs.Refusal.{most_rate, period_at, within, unless, or_next, rates_fit, task_refusal, list_refusal, table_length, refusal, IsSound}
 use Rattle.tasks.specs.Window.{Cyclic}
 use Rattle.tasks.specs.Instance.{instance_of, own_instance, Regular}
 use Rattle.tasks.proofs.WindowLaws.{both, job_lt}
-
--- ---- lists as numbers
--- a list of n has n tasks
-pub rows_length : (l : TaskList) → length (rows l) ≡ l.n
-rows_length l = tab_length l.n (task_at l)
-
--- and the task of number k + 1 is that at place k
-pub rows_task : (l : TaskList) (k : ℕ) → k < l.n → task (rows l) (suc k) ≡ task_at l k
-rows_task l k h = tab_at l.n (task_at l) k no_task h
 
 -- ---- what no refusal says
 -- a number that is in a range

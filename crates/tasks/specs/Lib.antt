@@ -1,4 +1,5 @@
 pub mod Task
 pub mod Refusal
+pub mod Told
 pub mod Window
 pub mod Instance

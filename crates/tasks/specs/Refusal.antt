@@ -1,15 +1,12 @@
 -- Refusals 1 to 8, in the order of RULES 5.7; 0 where there is none.
 -- Assumes nothing.
-use Rattle.std.specs.Prelude.{ℕ, zero, suc, ◌≤◌, ◌<◌, ◌≡◌, Bool, true, false, cond, ◌&&◌, List, leb, ltb, eqb, length}
+use Rattle.std.specs.Prelude.{ℕ, zero, suc, ◌≤◌, ◌<◌, ◌≡◌, Bool, true, false, cond, ◌&&◌, List, leb, ltb, eqb, length, Option, None, Some}
 use Rattle.laws.specs.Tests.{all}
 use Rattle.laws.specs.Lists.{nth, first_of}
 use Rattle.laws.specs.Lcm.{lcms_of}
 use Rattle.tasks.specs.declared.Rates.{Rates}
 use Rattle.tasks.specs.declared.Task.{Task}
-use Rattle.tasks.specs.declared.Length.{Length}
-use Rattle.tasks.specs.declared.Length.TheVariants.{Fits, TooLong}
-use Rattle.tasks.specs.declared.Soundness.{Soundness}
-use Rattle.tasks.specs.declared.Soundness.TheVariants.{Sound, Refused}
+use Rattle.tasks.specs.declared.Slots.{Slots}
 use Rattle.tasks.specs.Task.{task}
 
 -- low..high
@@ -66,24 +63,19 @@ refusal m ts =
 abbrev pub IsSound : ℕ → List Task → Type 0
 IsSound m ts = refusal m ts ≡ 0
 
--- the table's length, or that it is over 1024
-abbrev pub fits_if : Bool → ℕ → Length
-fits_if true h = Fits (record { 0 = h })
-fits_if false h = TooLong
+-- the table's length, or none where it is over 1024
+abbrev pub fits_if : Bool → ℕ → Option Slots
+fits_if true h = Some (record { 0 = h })
+fits_if false h = None
 
 -- 1.6: what the code answers of a table's length
-unfoldable pub length_of : List Task → Length
+unfoldable pub length_of : List Task → Option Slots
 length_of ts = fits_if (leb (table_length ts) 1024) (table_length ts)
 
 -- what is told of a list: that it is sound, with H, or the number that refuses it
 pub data Tested : Type 0 where
   sound : ℕ → Tested
   refused : ℕ → Tested
-
--- the answer by the rules' numbers
-unfoldable pub tested_as : Soundness → Tested
-tested_as (Sound h) = sound h.0
-tested_as (Refused number) = refused number
 
 -- the refusal, if it is not 0, else sound, with H
 abbrev pub tested_if : ℕ → ℕ → Tested

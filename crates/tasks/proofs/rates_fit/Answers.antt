@@ -1,30 +1,18 @@
--- `tasks::rates_fit` meets its contract. The loop's invariant: no rate passed is over the most. The measure is what is left of the four.
+-- `tasks::rates_fit` meets its contract: the most of a core is the definition's, and each rate is held against it.
 -- Assumes nothing.
-use Prim.Native.Nat.{◌≤◌}
-use mathlib.Core.Path.{◌≡◌, subst}
-use native.Mathlib.Omega.{arith}
-use borrow.Author.Count.{below_none, below_more}
+use Rattle.std.proofs.Common.{◌≡◌, ap, arith}
+use Rattle.laws.specs.Lists.{nth}
 use Rattle.tasks.specs.Refusal.{most_rate}
 use Rattle.tasks.proofs.AnswerLaws.{most_within, most_beyond, rates_over, rates_under}
 use Rattle.tasks.proofs.rates_fit.Goals as goal
-use Rattle.tasks.proofs.rates_fit.Goals.{then-j-m, else-j-m}
+use Rattle.tasks.proofs.rates_fit.Goals.{then-core-m, else-core-m}
 
-pub loop-j-init : goal.loop-j-init
-loop-j-init c = (omega arith, below_none _)
-
-pub returns-then-most-row : goal.returns-then-most-row
-returns-then-most-row c =
-    let most_is : c.if-j-m.most ≡ most_rate c.args.m c.loop-j.j =
-    elim c.if-j-m.branch [ then-j-m w ↦ most_within _ _ _ w.if-j-m.true w.most-is | else-j-m w ↦ most_beyond _ _ _ w.if-j-m.false w.most-is ]
+pub returns-then-most-on : goal.returns-then-most-on
+returns-then-most-on c =
+    let most_is : c.if-core-m.most ≡ most_rate c.args.m c.loop-core.core =
+    elim c.if-core-m.branch [ then-core-m w ↦ most_within _ _ _ w.if-core-m.true w.most-is | else-core-m w ↦ most_beyond _ _ _ w.if-core-m.false w.most-is ]
     in
-    rates_over _ _ _ _ (omega arith) most_is c.if-most-row.true
-
-pub loop-j-preserved : goal.loop-j-preserved
-loop-j-preserved c =
-    let most_is : c.if-j-m.most ≡ most_rate c.args.m c.loop-j.j =
-    elim c.if-j-m.branch [ then-j-m w ↦ most_within _ _ _ w.if-j-m.true w.most-is | else-j-m w ↦ most_beyond _ _ _ w.if-j-m.false w.most-is ]
-    in
-    (omega arith, below_more _ _ c.loop-j.invariant.1 (subst (◌≤◌ _) most_is c.if-most-row.false))
+    rates_over _ _ _ _ c.loop-core-test.true most_is (omega (arith, c.on.ensures, ap (nth c.args.rates.0) c.from.ensures))
 
 pub returns : goal.returns
-returns c = rates_under _ _ (λ j l. c.loop-j.invariant.1 j (omega arith))
+returns c = rates_under _ _ (λ j l. c.loop-core.invariant j (omega arith))

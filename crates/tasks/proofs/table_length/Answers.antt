@@ -1,24 +1,28 @@
--- `tasks::table_length` meets its contract. The loop's invariant: h is the least common multiple of the periods passed, and at most 1024.
--- The measure is what is left of the tasks. Assumes nothing.
-use Prim.Native.Nat.{◌+◌}
-use mathlib.Core.Path.{refl}
-use native.Mathlib.Omega.{arith}
-use Rattle.laws.specs.Lcm.{lcms_of}
-use Rattle.tasks.proofs.SoundLaws.{rows_length}
+-- `tasks::table_length` meets its contract: each turn takes one more period into the least common multiple.
+-- Assumes nothing.
+use Rattle.std.proofs.Common.{◌≡◌, ◌+◌, length, refl, ap, ap₂, ◌∙◌, arith}
+use Rattle.laws.specs.Lcm.{lcm_of, lcms_of}
+use Rattle.tasks.specs.Refusal.{period_at, table_length}
 use Rattle.tasks.proofs.AnswerLaws.{length_next, length_over, length_done}
 use Rattle.tasks.proofs.table_length.Goals as goal
 
-pub loop-i-init : goal.loop-i-init
+pub loop-task-init : goal.loop-task-init
 unfolding lcms_of
-loop-i-init c = (omega arith, refl, omega arith)
+loop-task-init c = (refl, omega arith)
 
-pub returns-then-l : goal.returns-then-l
-returns-then-l c =
-    length_over _ (c.loop-i.i + 1) _ c.requires.1
-    (omega (arith, rows_length c.args.list)) (length_next _ _ _ _ c.loop-i-test.true c.loop-i.invariant.1 c.lcm-l.ensures) c.if-l.true
+pub returns-then-from-l : goal.returns-then-from-l
+returns-then-from-l c =
+    length_over _ (c.loop-task.task-index + 1) _ c.requires (omega arith)
+    (length_next _ _ _ _ c.loop-task.invariant.0 (c.lcm-l.ensures ∙ ap₂ lcm_of c.from.ensures c.from-in-loop-task.ensures)) (omega arith)
 
-pub loop-i-preserved : goal.loop-i-preserved
-loop-i-preserved c = (omega arith, length_next _ _ _ _ c.loop-i-test.true c.loop-i.invariant.1 c.lcm-l.ensures, omega arith)
+pub loop-task-preserved : goal.loop-task-preserved
+loop-task-preserved c = (
+  length_next _ _ _ _ c.loop-task.invariant.0 (c.lcm-l.ensures ∙ ap₂ lcm_of c.from.ensures c.from-in-loop-task.ensures),
+  omega arith,
+)
 
 pub returns : goal.returns
-returns c = length_done _ _ _ (omega arith) (omega arith) c.loop-i.invariant.1 c.loop-i.invariant.2
+unfolding table_length
+returns c =
+    let end : c.loop-task.task-index ≡ length c.args.tasks.now = omega arith in
+    length_done _ _ (c.loop-task.invariant.0 ∙ ap (λ n. lcms_of n (period_at c.args.tasks.now)) end) c.loop-task.invariant.1
