@@ -8,7 +8,7 @@ use Rattle.tasks.specs.declared.Task.{Task}
 use Rattle.table.specs.Fault.{check}
 use Rattle.rules.specs.Search.{search}
 use Rattle.player.specs.declared.Player.{Player}
-use Rattle.clock.specs.declared.Shown.{Shown}
+use Rattle.clock.specs.Clock.{Answered}
 use Rattle.player.specs.Player.{stepped, after_step, started, after_start}
 use Rattle.planner.proofs.Calls.{PlanText, plan_text_only}
 use Rattle.exports.specs.Packed.{SearchNumber, check_number, ShownNumber}
@@ -53,7 +53,7 @@ xiphomera_plan_text_only = plan_text_only
 
 -- ---- xiphomera_start: it finds the record p, answers r and leaves the four cells and the record p'
 -- what a player shows and leaves, told as a number, four cells and a record
-pub shown_only : {s : Shown} {p : Player} {r r' : ℕ} {c c' : List ℕ} {q q' : Player} → ShownNumber r c s × (q ≡ p) → ShownNumber r' c' s × (q' ≡ p) → (r ≡ r') × (c ≡ c') × (q ≡ q')
+pub shown_only : {s : Answered} {p : Player} {r r' : ℕ} {c c' : List ℕ} {q q' : Player} → ShownNumber r c s × (q ≡ p) → ShownNumber r' c' s × (q' ≡ p) → (r ≡ r') × (c ≡ c') × (q ≡ q')
 shown_only e e' = (only e.0.answer e'.0.answer, only e.0.shown e'.0.shown, only e.1 e'.1)
 
 abbrev pub XiphomeraStart : Player → List Task → ℕ → List ℕ → ℕ → ℕ → List ℕ → Player → Type 0

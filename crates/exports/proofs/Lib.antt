@@ -1,5 +1,2 @@
-mod CallLaws
 mod NarrowLaws
-mod NarrowCall
-mod TellCall
 pub mod Calls

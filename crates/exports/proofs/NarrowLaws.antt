@@ -5,11 +5,13 @@ use native.Mathlib.Omega.{arith}
 use mathlib.Core.Path.{◌≡◌, refl, sym, ap, ◌∙◌}
 use mathlib.Core.Logic.{◌≢◌}
 use mathlib.Core.Bool.{Bool, true, false, cond, ◌&&◌}
-use mathlib.Core.List.{List}
+use mathlib.Core.List.{List, []}
 use lib.Dec.{leb, ltb}
 use lib.ListN.{length}
 use borrow.Author.Tests.{ltb-true, lt-leb, ne_eqb}
+use Rattle.std.specs.Prelude.{Result, Ok, Err}
 use Rattle.tasks.specs.declared.Task.{Task}
+use Rattle.tasks.specs.declared.Refusal.{Refusal}
 use Rattle.tasks.specs.Refusal.{within, unless, or_next, list_refusal, table_length, refusal}
 use Rattle.tasks.specs.Instance.{own_instance}
 use Rattle.tasks.proofs.AnswerLaws.{or_first}
@@ -21,10 +23,10 @@ use Rattle.rules.specs.Search.{Searched, walked, search_told, search_refusal, se
 use Rattle.rules.proofs.Told.{refused_told}
 use Rattle.search.specs.declared.Answer.{Answer}
 use Rattle.search.specs.Told.{searched_as}
-use Rattle.clock.specs.declared.Shown.{Shown}
+use Rattle.clock.specs.Clock.{Answered}
 use Rattle.player.specs.declared.Player.{Player}
 use Rattle.player.specs.Player.{record_of, first_shown, record_or, started, after_start}
-use Rattle.exports.specs.Packed.{narrowed, with_verdict, SearchNumber}
+use Rattle.exports.specs.Packed.{narrowed, search_number, SearchNumber}
 
 -- what is the same for all numbers above k is the same for the narrowed one
 narrow_same : {X : Type 0} (F : ℕ → X) (k : ℕ) → k < 255 → ((a b : ℕ) → k < a → k < b → F a ≡ F b) → (x : ℕ) → F (narrowed x) ≡ F x
@@ -114,12 +116,23 @@ module _ (ts : List Task) where
   check_told cores t is_m e = e ∙ ap (λ a. check a ts t) is_m ∙ check_narrowed cores t
 
   -- a start of the narrowed number
-  pub start_told : {m : ℕ} (cores : ℕ) (t : List ℕ) (tick : ℕ) (p left : Player) (s : Shown) → m ≡ narrowed cores → (s ≡ started m ts t tick) × (left ≡ after_start m ts t tick p) → (s ≡ started cores ts t tick) × (left ≡ after_start cores ts t tick p)
+  pub start_told : {m : ℕ} (cores : ℕ) (t : List ℕ) (tick : ℕ) (p left : Player) (s : Answered) → m ≡ narrowed cores → (s ≡ started m ts t tick) × (left ≡ after_start m ts t tick p) → (s ≡ started cores ts t tick) × (left ≡ after_start cores ts t tick p)
   start_told cores t tick p left s is_m e = let h = start_narrowed cores t tick p in
       (e.0 ∙ ap (λ a. started a ts t tick) is_m ∙ h.0, e.1 ∙ ap (λ a. after_start a ts t tick p) is_m ∙ h.1)
 
   -- a search of the narrowed numbers, told as a number
-  pub search_told_lem : {m e : ℕ} (cores engine b : ℕ) (t u : List ℕ) (r : Answer) {k : ℕ} → m ≡ narrowed cores → e ≡ narrowed engine → searched_as r u ≡ search m ts e b t → k ≡ with_verdict r.verdict r.tries → SearchNumber k u (search cores ts engine b t)
+  pub search_told_lem : {m e : ℕ} (cores engine b : ℕ) (t u : List ℕ) (r : Result Answer Refusal) {k : ℕ} → m ≡ narrowed cores → e ≡ narrowed engine
+      → searched_as r u ≡ search m ts e b t → k ≡ search_number (searched_as r []) → SearchNumber k u (search cores ts engine b t)
   search_told_lem {m} {e} cores engine b t u r is_m is-e is is-k =
       let h = is ∙ ap (λ a. search a ts e b t) is_m ∙ ap (λ a. search (narrowed cores) ts a b t) is-e ∙ search_narrowed cores engine b t in
-      record { answer = is-k ∙ ap (λ s. with_verdict s.verdict s.tries) h; left = ap (λ s. s.buffer) h }
+      record { answer = is-k ∙ number_same r ∙ ap search_number h; left = left_is r ∙ ap (λ s. s.buffer) h }
+    where
+      -- the number looks at no buffer
+      number_same : (r : Result Answer Refusal) → search_number (searched_as r []) ≡ search_number (searched_as r u)
+      number_same (Ok a) = refl
+      number_same (Err x) = refl
+
+      -- the buffer is what is left
+      left_is : (r : Result Answer Refusal) → u ≡ (searched_as r u).buffer
+      left_is (Ok a) = refl
+      left_is (Err x) = refl

@@ -3,7 +3,7 @@
 use Rattle.std.specs.Prelude.{ℕ, ◌+◌, ◌*◌, ◌^◌, ◌≡◌, cond, List, ltb}
 use Rattle.table.specs.Fault.{no_fault, in_cell, in_job, Checked, refused, checked}
 use Rattle.rules.specs.Search.{Searched}
-use Rattle.clock.specs.declared.Shown.{Shown}
+use Rattle.clock.specs.Clock.{Answered}
 
 -- a number as a byte; what no byte holds is 255
 unfoldable pub narrowed : ℕ → ℕ
@@ -13,9 +13,13 @@ narrowed x = cond (ltb 255 x) 255 x
 abbrev pub with_verdict : ℕ → ℕ → ℕ
 with_verdict verdict number = verdict * 2 ^ 32 + number
 
--- a search, told as one number and its buffer
+-- a search, told as one number
+abbrev pub search_number : Searched → ℕ
+search_number s = with_verdict s.verdict s.tries
+
+-- and its buffer
 pub record SearchNumber (r : ℕ) (buffer : List ℕ) (s : Searched) : Type 0 where
-  pub answer : r ≡ with_verdict s.verdict s.tries
+  pub answer : r ≡ search_number s
   pub left : buffer ≡ s.buffer
 
 -- three numbers of a class, as one
@@ -30,6 +34,6 @@ check_number (checked (in_job task job kind)) = packed_as 2 task job kind
 check_number (refused number) = packed_as 3 0 0 number
 
 -- what a start or a step shows, told as one number and its four cells
-pub record ShownNumber (r : ℕ) (cells : List ℕ) (s : Shown) : Type 0 where
+pub record ShownNumber (r : ℕ) (cells : List ℕ) (s : Answered) : Type 0 where
   pub answer : r ≡ with_verdict s.verdict s.missed
   pub shown : cells ≡ s.cells

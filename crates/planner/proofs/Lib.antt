@@ -1,4 +1,2 @@
 pub mod TextLaws
-pub mod LentLaws
-pub mod ScanCall
 pub mod Calls

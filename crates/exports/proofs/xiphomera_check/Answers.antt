@@ -6,4 +6,4 @@ use Rattle.exports.proofs.NarrowLaws.{check_told}
 use Rattle.exports.proofs.xiphomera_check.Goals as goal
 
 pub returns : goal.returns
-returns c = c.tell_verdict.ensures ∙ ap check_number (check_told _ _ _ c.narrow-m.ensures c.check-verdict.ensures)
+returns c = c.tell_check.ensures ∙ ap check_number (check_told _ _ _ c.narrow-m.ensures c.check_table.ensures)

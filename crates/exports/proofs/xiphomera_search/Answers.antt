@@ -4,4 +4,4 @@ use Rattle.exports.proofs.NarrowLaws.{search_told_lem}
 use Rattle.exports.proofs.xiphomera_search.Goals as goal
 
 pub returns : goal.returns
-returns c = search_told_lem _ _ _ _ _ _ _ c.narrow-m.ensures c.narrow-e.ensures c.plan-answer.ensures c.tell_search.ensures
+returns c = search_told_lem _ _ _ _ _ _ _ c.narrow-m.ensures c.narrow-e.ensures c.search.ensures c.tell_search.ensures
