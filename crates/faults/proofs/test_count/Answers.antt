@@ -1,8 +1,8 @@
--- `faults::count_kind` meets its contract: its tests are the definition's.
+-- `faults::test_count` meets its contract: its tests are the definition's.
 -- Assumes nothing.
+use Rattle.std.proofs.Common.{rules}
 use Rattle.faults.proofs.TestLaws.{count_little, count_unneeded, count_met}
-use borrow.Author.Rules.{rules}
-use Rattle.faults.proofs.count_kind.Goals as goal
+use Rattle.faults.proofs.test_count.Goals as goal
 
 pub returns-then-count-work : goal.returns-then-count-work
 returns-then-count-work c = search (rules, count_little)
