@@ -67,6 +67,7 @@ pub fn test_cell(opens: bool, rated: bool, free: bool) -> Result<(), Kind>
 }
 
 // The count of a job with one more cell, which is needed unless the job is complete.
+#[tactic(auto, unfolding(crate::specs::Tests::counted))]
 pub fn count_cell(count: u16, work: Work, does: Work) -> u16
     requires { work.0 + does.0 ≤ 65535 }
     ensures { result ≡ counted work.0 count does.0 }
@@ -79,6 +80,7 @@ pub fn count_cell(count: u16, work: Work, does: Work) -> u16
 }
 
 // The test of a job by its count.
+#[tactic(auto, unfolding(crate::specs::Tests::count_kind, table::specs::Fault::work_kind, tasks::specs::Refusal::unless))]
 fn test_count(work: Work, count: u16) -> Result<(), Kind>
     ensures { kind_told result ≡ count_kind work.0 count }
 {
@@ -92,6 +94,7 @@ fn test_count(work: Work, count: u16) -> Result<(), Kind>
 }
 
 // The test of a job of the task at a place of the list.
+#[tactic(auto, unfolding(crate::specs::Tests::counted_kind))]
 pub fn test_job(counts: &[u16; 16384], place: u8, work: Work, job: u16) -> Result<(), Kind>
     requires { (place < 16) × (job < 1024) }
     ensures { kind_told result ≡ counted_kind counts.now place work.0 job }
