@@ -20,11 +20,12 @@ use Rattle.tasks.specs.declared.Slots.{Slots}
 use Rattle.tasks.specs.declared.Rates.{Rates}
 use Rattle.tasks.specs.declared.Task.{Task}
 use Rattle.tasks.specs.declared.Refusal.{Refusal}
-use Rattle.tasks.specs.declared.Refusal.TheVariants.{Count, Cores, Period, Deadline, Work, Offset, Rate, Length, Engine, Buffer, Table, Spoilt, Past, Text, Line, Kind, FrameLength, Place}
+use Rattle.tasks.specs.declared.Refusal.TheVariants.{Length}
 use Rattle.tasks.specs.Task.{task}
 use Rattle.tasks.specs.Refusal.{most_rate, period_at, within, unless, or_next, rates_fit, task_refusal, list_refusal, table_length, refusal, IsSound, fits_if, length_of, sound, refused, tested_if, tested, Periods}
 use Rattle.tasks.specs.Told.{number_of, tested_as}
 use Rattle.tasks.proofs.SoundLaws.{rates_at, list_range}
+use Rattle.tasks.proofs.RefusalLaws.{some_number}
 
 -- ---- ranges and rates
 -- the most that a rate may be on a core of the board
@@ -118,27 +119,6 @@ length_over ts i h all le e l =
 -- the periods of tasks that are not refused
 pub passed_periods : (m : ℕ) (ts : List Task) → 0 ≡ list_refusal m ts → Periods ts
 passed_periods m ts e k l = let t = list_range m ts (sym e) (suc k) (omega arith) l in (t.period_pos, t.period_le)
-
--- a refusal has a number
-pub some_number : (r : Refusal) → number_of r ≢ 0
-some_number Count = λ z. omega arith
-some_number Cores = λ z. omega arith
-some_number Period = λ z. omega arith
-some_number Deadline = λ z. omega arith
-some_number Work = λ z. omega arith
-some_number Offset = λ z. omega arith
-some_number Rate = λ z. omega arith
-some_number Length = λ z. omega arith
-some_number Engine = λ z. omega arith
-some_number Buffer = λ z. omega arith
-some_number Table = λ z. omega arith
-some_number Spoilt = λ z. omega arith
-some_number Past = λ z. omega arith
-some_number Text = λ z. omega arith
-some_number Line = λ z. omega arith
-some_number Kind = λ z. omega arith
-some_number FrameLength = λ z. omega arith
-some_number Place = λ z. omega arith
 
 -- a list that is refused
 pub refused_answer_lem : (m : ℕ) (ts : List Task) (r : Refusal) → number_of r ≡ refusal m ts → tested_as (Err r) ≡ tested m ts
