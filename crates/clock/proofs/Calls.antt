@@ -1,47 +1,69 @@
 -- What a call of each public function ensures, as its contract says, and that it leaves one answer.
 -- Assumes nothing.
-use Rattle.std.proofs.Common.{◌≡◌, ℕ, List, [], ◌∷◌, refl}
-use Rattle.laws.proofs.Only.{Says, only}
-use Rattle.tasks.specs.declared.Slots.{Slots}
+use Rattle.std.proofs.Common.{◌≡◌, ℕ, zero, suc, ◌≢◌, List, refl, ap, ◌∙◌}
+use Rattle.std.specs.Prelude.{Result, Ok, Err}
+use Rattle.laws.proofs.Only.{Says, only, only_told}
+use Rattle.tasks.specs.declared.Refusal.{Refusal}
+use Rattle.tasks.specs.Told.{number_of}
+use Rattle.tasks.proofs.RefusalLaws.{some_number, refusal_from, refusal_back}
+use Rattle.clock.specs.declared.Numbers.{Numbers}
 use Rattle.clock.specs.declared.Next.{Next}
 use Rattle.clock.specs.declared.Shown.{Shown}
-use Rattle.clock.specs.Clock.{stays_of, next_of, shown_of}
-use Rattle.clock.specs.contracts.stays as stays
-use Rattle.clock.specs.contracts.next_of as next_of_call
-use Rattle.clock.specs.contracts.show as show
+use Rattle.clock.specs.Clock.{Worked, worked_as, next_of, shown_of, Answered, answered_as}
+use Rattle.clock.specs.contracts.Numbers.next as next_call
+use Rattle.clock.specs.contracts.Next.show as show_call
 
--- ---- stays
-abbrev pub Stays : ℕ → Slots → Slots → ℕ → Next → Type 0
-Stays last position age verdict r = r ≡ stays_of last position.0 age.0 verdict
+-- ---- an answer, from its verdict and what it holds if it is not refused
+abbrev from_verdict : {A : Type 0} → ℕ → A → Result A Refusal
+from_verdict zero a = Ok a
+from_verdict (suc k) a = Err (refusal_from (suc k))
 
-stays_says : (κs last position age verdict last' position' age' verdict' r : _)
-    → Says (λ M 𝓤 𝓛 mem run. stays.ensures-1 𝓛 κs mem run last position age verdict last' position' age' verdict' r) (Stays last position age verdict r)
-stays_says κs last position age verdict last' position' age' verdict' r M 𝓤 𝓛 mem run = refl
+-- a refusal's
+from_refusal : {A : Type 0} (a : A) (r : Refusal) → from_verdict (number_of r) a ≡ Err r
+from_refusal {A} a r = go (number_of r) (some_number r) ∙ ap Err (refusal_back r)
+  where
+    go : (k : ℕ) → k ≢ 0 → from_verdict k a ≡ Err (refusal_from k)
+    go zero x = absurd (x refl)
+    go (suc k) x = refl
 
-pub stays_only : (last : ℕ) (position age : Slots) (verdict : ℕ) (r r' : Next) → Stays last position age verdict r → Stays last position age verdict r' → r ≡ r'
-stays_only last position age verdict r r' = only
+-- ---- Numbers::next
+-- the answer from what is worked out
+abbrev worked_from : Worked → Result Next Refusal
+worked_from x = from_verdict x.verdict (record { last = x.last; missed = x.missed; at = x.at; position = record { 0 = x.position }; age = record { 0 = x.age } })
 
--- ---- next_of
-abbrev pub NextOf : ℕ → Slots → Slots → Slots → ℕ → ℕ → ℕ → Next → Type 0
-NextOf last h position age m n tick r = r ≡ next_of last h.0 position.0 age.0 m n tick
+worked_back : (s : Numbers) (r : Result Next Refusal) → worked_from (worked_as s r) ≡ r
+worked_back s (Ok x) = refl
+worked_back s (Err r) = from_refusal _ r
 
-next_of_says : (κs last h position age m n tick last' h' position' age' m' n' tick' r : _)
-    → Says (λ M 𝓤 𝓛 mem run. next_of_call.ensures-1 𝓛 κs mem run last h position age m n tick last' h' position' age' m' n' tick' r)
-    (NextOf last h position age m n tick r)
-next_of_says κs last h position age m n tick last' h' position' age' m' n' tick' r M 𝓤 𝓛 mem run = refl
+abbrev pub NextOf : Numbers → ℕ → Result Next Refusal → Type 0
+NextOf s tick r = worked_as s r ≡ next_of s.last s.h.0 s.position.0 s.age.0 s.m s.n tick
 
-pub next_of_only : (last : ℕ) (h position age : Slots) (m n tick : ℕ) (r r' : Next) → NextOf last h position age m n tick r → NextOf last h position age m n tick r' → r ≡ r'
-next_of_only last h position age m n tick r r' = only
+next_says : (κs s tick s' tick' r : _) → Says (λ M 𝓤 𝓛 mem run. next_call.ensures-1 𝓛 κs mem run s tick s' tick' r) (NextOf s tick r)
+next_says κs s tick s' tick' r M 𝓤 𝓛 mem run = refl
 
--- ---- show
-abbrev pub Show : Next → ℕ → ℕ → List ℕ → ℕ → ℕ → ℕ → ℕ → Shown → Type 0
-Show next m n offsets a b c d r = r ≡ shown_of next m n offsets (a ∷ b ∷ c ∷ d ∷ [])
+pub next_only : (s : Numbers) (tick : ℕ) (r r' : Result Next Refusal) → NextOf s tick r → NextOf s tick r' → r ≡ r'
+next_only s tick r r' = only_told (worked_as s) worked_from (worked_back s)
 
-show_says : (κs next m n offsets a b c d next' m' n' offsets' a' b' c' d' r : _)
-    → Says (λ M 𝓤 𝓛 mem run. show.ensures-1 𝓛 κs mem run next m n offsets a b c d next' m' n' offsets' a' b' c' d' r)
-    (Show next m n offsets a b c d r)
-show_says κs next m n offsets a b c d next' m' n' offsets' a' b' c' d' r M 𝓤 𝓛 mem run = refl
+-- ---- Next::show
+abbrev pub Show : Next → ℕ → ℕ → List ℕ → List ℕ → Shown → Type 0
+Show x m n offsets cells r = r ≡ shown_of x m n offsets cells
 
-pub show_only : (next : Next) (m n : ℕ) (offsets : List ℕ) (a b c d : ℕ) (r r' : Shown)
-    → Show next m n offsets a b c d r → Show next m n offsets a b c d r' → r ≡ r'
-show_only next m n offsets a b c d r r' = only
+show_says : (κs x m n offsets cells x' m' n' offsets' cells' r : _)
+    → Says (λ M 𝓤 𝓛 mem run. show_call.ensures-1 𝓛 κs mem run x m n offsets cells x' m' n' offsets' cells' r) (Show x m n offsets cells r)
+show_says κs x m n offsets cells x' m' n' offsets' cells' r M 𝓤 𝓛 mem run = refl
+
+pub show_only : (x : Next) (m n : ℕ) (offsets cells : List ℕ) (r r' : Shown) → Show x m n offsets cells r → Show x m n offsets cells r' → r ≡ r'
+show_only x m n offsets cells r r' = only
+
+-- ---- what a start or a step answers
+-- the answer from its numbers
+abbrev answered_from : Answered → Result Shown Refusal
+answered_from a = from_verdict a.verdict (record { cells = a.cells; missed = a.missed })
+
+answered_back : (r : Result Shown Refusal) → answered_from (answered_as r) ≡ r
+answered_back (Ok s) = refl
+answered_back (Err r) = from_refusal _ r
+
+-- the numbers tell all answers apart
+pub answered_only : {a : Answered} {r r' : Result Shown Refusal} → answered_as r ≡ a → answered_as r' ≡ a → r ≡ r'
+answered_only = only_told answered_as answered_from answered_back

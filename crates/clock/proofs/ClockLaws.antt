@@ -4,8 +4,7 @@ use Rattle.std.proofs.Common.{◌≡◌, ℕ, zero, suc, ◌+◌, ◌-◌, ◌*�
 use native.Mathlib.Nat.{mod-add-mod}
 use Rattle.laws.specs.Sum.{sum}
 use Rattle.tasks.specs.Refusal.{within, unless}
-use Rattle.clock.specs.declared.Next.{Next}
-use Rattle.clock.specs.Clock.{elapsed_of, step_refusal, next_of, time_after}
+use Rattle.clock.specs.Clock.{Worked, elapsed_of, step_refusal, advanced, next_of, time_after}
 use Rattle.clock.proofs.StepLaws.{Unspoilt, not_refused, next_taken}
 
 -- the tick s slots after the tick τ
@@ -39,18 +38,19 @@ module _ {h position age m n : ℕ} (u : Unspoilt h position age m n) (last s : 
   -- a step that is in time moves them on by its elapsed number
   pub moved_on : (e : ℕ) → e < 2 ^ 31
       → next_of (tick_after last s) h ((position + s) % h) (min (age + s) 1024) m n (tick_after (tick_after last s) e)
-      ≡ record { last = tick_after last (s + e); missed = e - 1; at = (position + (s + e)) % h * m; position = record { 0 = (position + (s + e)) % h }; age = record { 0 = min (age + (s + e)) 1024 }; verdict = 0 }
+      ≡ record { last = tick_after last (s + e); missed = e - 1; at = (position + (s + e)) % h * m; position = (position + (s + e)) % h; age = min (age + (s + e)) 1024; verdict = 0 }
   moved_on e l =
       let is = elapsed_is (last + s) e (omega arith) in
-      sym (next_taken _ _ _ _ _ _ _ 0 e _ _ (sym (not_refused _ _ _ _ _ _ _ moved_unspoilt (omega (arith, is)))) refl (sym is) refl (omega arith))
-      ∙ same (omega arith) (mod-add-mod (position + s) h e ∙ ap (λ x. x % h) (omega arith))
+      sym (next_taken _ _ _ _ _ _ _ (sym (not_refused _ _ _ _ _ _ _ moved_unspoilt (omega (arith, is)))))
+      ∙ ap (advanced h _ _ m _) is
+      ∙ same (omega arith) (mod-add-mod (position + s) h e ∙ ap (λ x. x % h) (omega arith)) (omega arith)
     where
-      same : {a a' b b' : ℕ} → a ≡ a' → b ≡ b'
-          → ◌≡◌ {A = Next} (record { last = a; missed = e - 1; at = b * m; position = record { 0 = b }; age = record { 0 = min (age + (s + e)) 1024 }; verdict = 0 })
-          (record { last = a'; missed = e - 1; at = b' * m; position = record { 0 = b' }; age = record { 0 = min (age + (s + e)) 1024 }; verdict = 0 })
-      same x y = cc
+      same : {a a' b b' c c' : ℕ} → a ≡ a' → b ≡ b' → c ≡ c'
+          → ◌≡◌ {A = Worked} (record { last = a; missed = e - 1; at = b * m; position = b; age = c; verdict = 0 })
+          (record { last = a'; missed = e - 1; at = b' * m; position = b'; age = c'; verdict = 0 })
+      same x y z = cc
 
 -- the drawing of RULES 7: H = 12, and slot 3 at tick 4294967295; at the next tick, 0, it is slot 4 and not 0
-after_wrap : (next_of 4294967295 12 3 3 1 1 0).position.0 ≡ 4
+after_wrap : (next_of 4294967295 12 3 3 1 1 0).position ≡ 4
 unfolding next_of step_refusal within unless
 after_wrap = refl

@@ -1,15 +1,12 @@
 -- What a step works out of the record's numbers: when it is refused, and what it stores.
 -- Assumes nothing.
-use Rattle.std.proofs.Common.{◌≡◌, ℕ, zero, suc, ◌+◌, ◌-◌, ◌*◌, ◌%◌, ◌^◌, ◌<◌, ◌≤◌, min, Bool, true, false, T, ltb, ◌≢◌, List, [], ◌∷◌, sym, refl, ◌∙◌, mod-lt, mul-le-mul, arith, le→leb, ltb→lt, lt→ltb, leb→le}
+use Rattle.std.proofs.Common.{◌≡◌, ℕ, zero, suc, ◌*◌, ◌%◌, ◌^◌, ◌<◌, ◌≤◌, Bool, true, false, T, ltb, ◌≢◌, sym, refl, ◌∙◌, mod-lt, mul-le-mul, arith, le→leb, ltb→lt, lt→ltb, leb→le}
 use Rattle.laws.specs.Tests.{every}
-use Rattle.laws.specs.Lists.{tab_from}
 use Rattle.laws.proofs.TestLaws.{every_holds, holds_every}
 use Rattle.tasks.specs.Refusal.{unless}
 use Rattle.tasks.proofs.SoundLaws.{within_is, is_within}
 use Rattle.tasks.proofs.AnswerLaws.{unless_yes, unless_no}
-use Rattle.clock.specs.declared.Next.{Next}
-use Rattle.clock.specs.declared.Shown.{Shown}
-use Rattle.clock.specs.Clock.{elapsed_of, ranges, step_refusal, stays_of, next_of, cell_of, answer_or, shown_of}
+use Rattle.clock.specs.Clock.{elapsed_of, ranges, step_refusal, stays_of, advanced, next_of}
 
 -- the numbers of a record that is not spoilt
 pub record Unspoilt (h position age m n : ℕ) : Type 0 where
@@ -64,11 +61,8 @@ module _ {h position age m n : ℕ} (x : ℕ) (u : Unspoilt h position age m n) 
   slot_below l = omega (arith, mod-lt x u.some_slot, u.few_slots)
 
   -- its cells begin four before the end of the table's room or earlier
-  pub cells_at : x % h * m ≤ 4092
+  cells_at : x % h * m ≤ 4092
   cells_at = mul-le-mul {n₂ = 1023} {m₂ = 4} (omega (arith, mod-lt x u.some_slot, u.few_slots)) u.few_cores
-
-  pub cells_below : {b : ℕ} → 4096 ≤ b → x % h * m < b
-  cells_below l = omega (arith, cells_at)
 
 module _ (last h position age m n tick : ℕ) where
   abbrev refusal : ℕ
@@ -90,46 +84,28 @@ module _ (last h position age m n tick : ℕ) where
   not_refused u l = unless_yes _ _ _ (unspoilt_passes h position age m n u) ∙ unless_yes _ _ _ (lt→ltb _ _ l)
 
   -- and only otherwise
-  pub refused_not : (v e : ℕ) → v ≡ refusal → v ≡ 0 → e ≡ elapsed_of tick last → Unspoilt h position age m n × (e < 2 ^ 31)
+  pub in_time : 0 ≡ refusal → Unspoilt h position age m n × (elapsed_of tick last < 2 ^ 31)
   unfolding step_refusal
-  refused_not v e r z is =
-      let t = unless_none (every (ranges h position age m n)) (ltb (elapsed_of tick last) (2 ^ 31)) (sym r ∙ z) in
-      (passes_unspoilt h position age m n t.0, rw is (ltb→lt _ _ t.1))
+  in_time e =
+      let t = unless_none (every (ranges h position age m n)) (ltb (elapsed_of tick last) (2 ^ 31)) (sym e) in
+      (passes_unspoilt h position age m n t.0, ltb→lt _ _ t.1)
 
   -- what a refused step works out
-  pub next_refused : (v : ℕ) (x : Next) → x ≡ stays_of last position age v → v ≡ refusal → v ≢ 0 → x ≡ next_of last h position age m n tick
+  pub next_refused : (v : ℕ) → v ≡ refusal → v ≢ 0 → stays_of last position age v ≡ next_of last h position age m n tick
   unfolding next_of
-  next_refused zero x s e ne = absurd (ne refl)
-  next_refused (suc v) x s e ne = rw (← e) s
+  next_refused zero e ne = absurd (ne refl)
+  next_refused (suc v) e ne = rw (← e)
 
   -- what any other works out
-  pub next_taken : (v e missed older : ℕ) → v ≡ refusal → v ≡ 0 → e ≡ elapsed_of tick last → missed ≡ e - 1 → older ≡ min (age + e) 1024
-      → ◌≡◌ {A = Next} (record { last = tick; missed = missed; at = (position + e) % h * m; position = record { 0 = (position + e) % h }; age = record { 0 = older }; verdict = v }) (next_of last h position age m n tick)
+  pub next_taken : 0 ≡ refusal → advanced h position age m tick (elapsed_of tick last) ≡ next_of last h position age m n tick
   unfolding next_of
-  next_taken v e missed older r z is em ea = rw (← r, z, em, ea, is)
+  next_taken e = rw (← e)
 
   -- the four cells of a step lie in the table's room
   at_le : (v : ℕ) → v ≡ refusal → (next_of last h position age m n tick).at ≤ 4092
   unfolding next_of
-  at_le zero e = rw (← e) (cells_at _ (refused_not 0 _ e refl refl).0)
+  at_le zero e = rw (← e) (cells_at _ (in_time e).0)
   at_le (suc v) e = rw (← e) (omega arith)
 
   pub next_in : (next_of last h position age m n tick).at ≤ 4092
   next_in = at_le refusal refl
-
-module _ (x : Next) (m n : ℕ) (offsets : List ℕ) where
-  -- the answer of a refused step
-  pub answer_refused : (cells : List ℕ) → x.verdict ≢ 0 → ◌≡◌ {A = Shown} (record { verdict = x.verdict; cells = 0 ∷ 0 ∷ 0 ∷ 0 ∷ []; missed = 0 }) (shown_of x m n offsets cells)
-  unfolding shown_of
-  answer_refused cells = go x.verdict _
-    where
-      go : (v : ℕ) (s : Shown) → v ≢ 0 → ◌≡◌ {A = Shown} (record { verdict = v; cells = 0 ∷ 0 ∷ 0 ∷ 0 ∷ []; missed = 0 }) (answer_or v s)
-      go zero s ne = absurd (ne refl)
-      go (suc v) s ne = refl
-
-  -- the answer of any other
-  pub answer_taken : (a b c d a' b' c' d' : ℕ) → x.verdict ≡ 0
-      → a' ≡ cell_of m n x.age.0 offsets 0 a → b' ≡ cell_of m n x.age.0 offsets 1 b → c' ≡ cell_of m n x.age.0 offsets 2 c → d' ≡ cell_of m n x.age.0 offsets 3 d
-      → ◌≡◌ {A = Shown} (record { verdict = x.verdict; cells = a' ∷ b' ∷ c' ∷ d' ∷ []; missed = x.missed }) (shown_of x m n offsets (a ∷ b ∷ c ∷ d ∷ []))
-  unfolding shown_of tab_from
-  answer_taken a b c d a' b' c' d' z ea eb ec ed = rw (z, ea, eb, ec, ed)
