@@ -1,7 +1,6 @@
 mod FrameLaws
+mod DigitLaws
 pub mod LineLaws
 pub mod ListLaws
 pub mod RefusalLaws
-mod DigitLaws
-pub mod Calls
 pub mod Text
