@@ -26,5 +26,5 @@ pub fn lcm(a: u32, b: u32) -> u64
         return 0;
     }
     let g = gcd(a, b);
-    ((a / g) as u64) * (b as u64)
+    u64::from(a / g) * u64::from(b)
 }

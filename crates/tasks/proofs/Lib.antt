@@ -1,4 +1,6 @@
 pub mod WindowLaws
 pub mod ComingLaws
 pub mod SoundLaws
+pub mod RefusalLaws
 pub mod AnswerLaws
+pub mod Calls

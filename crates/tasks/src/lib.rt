@@ -149,8 +149,8 @@ fn table_length(tasks: &[Task]) -> Option<Slots>
     ensures { result ≡ length_of tasks.now }
 {
     let mut h: u16 = 1;
-    for task in tasks {
-        let l = laws::lcm(u32::from(h), u32::from(task.period.0));
+    for t in tasks {
+        let l = laws::lcm(u32::from(h), u32::from(t.period.0));
         if u64::from(MAX_SLOTS) < l {
             return None;
         }

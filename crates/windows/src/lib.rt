@@ -1,14 +1,15 @@
 // Windows: in which slots a task is open, for which job, and how many of the job's slots are still to come.
 #![tactic(auto)]
 
-ghost use Rattle.std.specs.Prelude.{◌≡◌, ◌≤◌, ◌<◌, min};
+ghost use Rattle.std.specs.Prelude.{◌≡◌, ◌≤◌, ◌<◌};
 ghost use Rattle.tasks.specs.Window.{place as place_of};
 ghost use Rattle.windows.specs.Answer.{Fit, in_slot};
 
 use tasks::{Slots, Task};
 
 // A task in a slot: whether it is open; the number of its job, in a closed slot too; and how many of the job's slots have a
-// higher number in the table, 0 in a closed slot.
+// higher number in the table, 0 in a closed slot. Three facts, and no Option: RULES 2.3 and 2.7 tell the last two of a closed
+// slot as well (`open_in_job` and `open_in_closed` in proofs/Calls.antt).
 #[derive(Clone, Copy)]
 pub struct InSlot {
     pub opens: bool,
@@ -22,13 +23,6 @@ fn place(len: Slots, offset: Slots, slot: Slots) -> Slots
     ensures { result.0 ≡ place_of len.0 offset.0 slot.0 }
 {
     Slots((slot.0 + (len.0 - offset.0 % len.0)) % len.0)
-}
-
-// The smaller of two numbers of slots.
-fn fewer(a: Slots, b: Slots) -> Slots
-    ensures { result.0 ≡ min a.0 b.0 }
-{
-    if a.0 <= b.0 { a } else { b }
 }
 
 // The open test: what is told of a task in a slot.
@@ -48,12 +42,12 @@ pub fn open_in(len: Slots, t: Task, slot: Slots) -> InSlot
     }
     // Right below this slot the window has so many: back to its first, or, where it came round the end, to slot 0. Its others
     // have higher numbers, as far as the table goes.
-    let below = fewer(Slots(in_period), slot);
-    let others = Slots(t.deadline.0 - 1 - below.0);
-    let above = Slots(len.0 - 1 - slot.0);
+    let below = in_period.min(slot.0);
+    let others = t.deadline.0 - 1 - below;
+    let above = len.0 - 1 - slot.0;
     InSlot {
         opens: true,
         job,
-        coming: fewer(others, above),
+        coming: Slots(others.min(above)),
     }
 }

@@ -6,23 +6,23 @@ use Rattle.tasks.specs.Refusal.{period_at, table_length}
 use Rattle.tasks.proofs.AnswerLaws.{length_next, length_over, length_done}
 use Rattle.tasks.proofs.table_length.Goals as goal
 
-pub loop-task-init : goal.loop-task-init
+pub loop-t-init : goal.loop-t-init
 unfolding lcms_of
-loop-task-init c = (refl, omega arith)
+loop-t-init c = (refl, omega arith)
 
 pub returns-then-from-l : goal.returns-then-from-l
 returns-then-from-l c =
-    length_over _ (c.loop-task.task-index + 1) _ c.requires (omega arith)
-    (length_next _ _ _ _ c.loop-task.invariant.0 (c.lcm-l.ensures ∙ ap₂ lcm_of c.from.ensures c.from-in-loop-task.ensures)) (omega arith)
+    length_over _ (c.loop-t.t-index + 1) _ c.requires (omega arith)
+    (length_next _ _ _ _ c.loop-t.invariant.0 (c.lcm-l.ensures ∙ ap₂ lcm_of c.from.ensures c.from-in-loop-t.ensures)) (omega arith)
 
-pub loop-task-preserved : goal.loop-task-preserved
-loop-task-preserved c = (
-  length_next _ _ _ _ c.loop-task.invariant.0 (c.lcm-l.ensures ∙ ap₂ lcm_of c.from.ensures c.from-in-loop-task.ensures),
+pub loop-t-preserved : goal.loop-t-preserved
+loop-t-preserved c = (
+  length_next _ _ _ _ c.loop-t.invariant.0 (c.lcm-l.ensures ∙ ap₂ lcm_of c.from.ensures c.from-in-loop-t.ensures),
   omega arith,
 )
 
 pub returns : goal.returns
 unfolding table_length
 returns c =
-    let end : c.loop-task.task-index ≡ length c.args.tasks.now = omega arith in
-    length_done _ _ (c.loop-task.invariant.0 ∙ ap (λ n. lcms_of n (period_at c.args.tasks.now)) end) c.loop-task.invariant.1
+    let end : c.loop-t.t-index ≡ length c.args.tasks.now = omega arith in
+    length_done _ _ (c.loop-t.invariant.0 ∙ ap (λ n. lcms_of n (period_at c.args.tasks.now)) end) c.loop-t.invariant.1

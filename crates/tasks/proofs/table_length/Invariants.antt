@@ -5,5 +5,5 @@ use Rattle.laws.specs.Lcm.{lcms_of}
 use Rattle.tasks.specs.Refusal.{period_at}
 use Rattle.tasks.proofs.table_length.Given as goal
 
-abbrev pub invariant-loop-task : goal.invariant-loop-task
-invariant-loop-task l = (l.h ≡ lcms_of l.task-index (period_at l.tasks)) × (l.h ≤ 1024)
+abbrev pub invariant-loop-t : goal.invariant-loop-t
+invariant-loop-t l = (l.h ≡ lcms_of l.t-index (period_at l.tasks)) × (l.h ≤ 1024)

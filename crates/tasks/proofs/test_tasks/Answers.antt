@@ -2,7 +2,8 @@
 -- Assumes nothing.
 use Rattle.std.proofs.Common.{arith}
 use Rattle.std.proofs.lemmas.Result.{err_from_is_err_and}
-use Rattle.tasks.proofs.AnswerLaws.{some_number, list_refused, list_passed}
+use Rattle.tasks.proofs.RefusalLaws.{some_number}
+use Rattle.tasks.proofs.AnswerLaws.{list_refused, list_passed}
 use Rattle.tasks.proofs.test_tasks.Goals as goal
 
 pub returns-in_err-test_task : goal.returns-in_err-test_task
