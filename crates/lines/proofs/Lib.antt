@@ -4,3 +4,4 @@ pub mod LineLaws
 pub mod ListLaws
 pub mod RefusalLaws
 pub mod Text
+pub mod Calls

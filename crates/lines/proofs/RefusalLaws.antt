@@ -1,14 +1,13 @@
 -- The refusals of a line.
 -- Assumes nothing.
-use Rattle.std.proofs.Common.{ℕ, ◌≡◌, ◌≢◌, ◌/◌, ◌<◌, Bool, true, false, ◌&&◌, List, [], ◌∷◌, length, nat_eq, refl, ap, ◌∙◌, sym, arith, Option, None, Some, Result, Ok, Err}
+use Rattle.std.proofs.Common.{ℕ, ◌≡◌, ◌≢◌, ◌/◌, ◌<◌, Bool, true, false, ◌&&◌, List, [], ◌∷◌, length, nat_eq, refl, ap, sym, arith, Option, None, Some, Ok, Err}
 use Rattle.std.specs.Option.{ok_or}
-use mathlib.Core.Bool.{not, false≢true}
+use mathlib.Core.Bool.{false≢true}
 use borrow.Author.Tests.{eqb-true, eq-eqb, ne_eqb}
-use Rattle.laws.specs.Tests.{every}
 use Rattle.laws.specs.Lists.{nth}
 use Rattle.tasks.specs.Refusal.{unless}
 use Rattle.lines.specs.Frame.{length_of_kind, sort_of}
-use Rattle.lines.specs.Lines.{Line, pairs, bytes_of}
+use Rattle.lines.specs.Lines.{pairs, bytes_of}
 use Rattle.lines.specs.Refusal.{is_kind, in_problem, length_refusal, frame_refusal, line_refusal}
 use Rattle.lines.proofs.LineLaws.{bytes_length}
 

@@ -1,6 +1,6 @@
 -- What the code answers of a kind, by the rules' numbers.
 -- Assumes nothing.
-use Rattle.std.specs.Prelude.{ℕ, ◌≡◌, Bool, false, Result, MatchResult}
+use Rattle.std.specs.Prelude.{ℕ, ◌≡◌, false, Result, MatchResult}
 use Rattle.tasks.specs.declared.Refusal.{Refusal}
 use Rattle.tasks.specs.declared.Refusal.TheVariants as refusal
 use Rattle.lines.specs.declared.Kind.{Kind}

@@ -1,6 +1,6 @@
 -- `lines::put_frame` meets its contract. The loop's invariant: the digits of the bytes passed stand at the start.
 -- Assumes nothing.
-use Rattle.std.proofs.Common.{◌≡◌, ◌*◌, length, take}
+use Rattle.std.proofs.Common.{◌≡◌, ◌*◌, take}
 use Rattle.laws.specs.Lists.{over}
 use Rattle.lines.specs.Lines.{digits}
 use Rattle.lines.proofs.put_frame.Given as goal

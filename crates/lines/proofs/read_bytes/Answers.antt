@@ -1,6 +1,6 @@
 -- `lines::read_bytes` meets its contract: two digits a byte, and the first pair of anything else decides.
 -- Assumes nothing.
-use Rattle.std.proofs.Common.{◌≡◌, ◌*◌, ◌+◌, ◌&&◌, refl, sym, ap, ◌∙◌, arith, Some}
+use Rattle.std.proofs.Common.{◌*◌, ◌+◌, ◌&&◌, refl, sym, ap, ◌∙◌, arith, Some}
 use Rattle.laws.specs.Lists.{nth, tab_from}
 use Rattle.lines.specs.Frame.{ten_bytes}
 use Rattle.lines.specs.Lines.{is_digit, digit_of, bytes_of}

@@ -1,10 +1,9 @@
 -- `lines::read_line` meets its contract: its tests are the definition's, in their order.
 -- Assumes nothing.
-use Rattle.std.proofs.Common.{◌≡◌, ◌/◌, length, refl, sym, ap, ◌∙◌, arith}
+use Rattle.std.proofs.Common.{◌/◌, length, sym, ap, ◌∙◌}
 use Rattle.std.proofs.lemmas.Result.{err_from_is_err_and}
 use Rattle.laws.specs.Lists.{nth, tab_from}
 use Rattle.lines.specs.Frame.{ten_bytes}
-use Rattle.lines.specs.Lines.{pairs, bytes_of}
 use Rattle.lines.specs.Refusal.{frame_refusal}
 use Rattle.lines.proofs.LineLaws.{stripped, not_stripped, told_none, told_some}
 use Rattle.lines.proofs.RefusalLaws.{not_ended, empty_line, not_pairs, whole_line, some_of, none_of}
@@ -36,8 +35,8 @@ returns-in_err-kind-clause-refusal c =
     let p = err_from_is_err_and c.from_residual-in_err-kind.result c.from_residual-in_err-kind.ensures.1 in
     let told = told_some _ _ _ (sym (some_of c.read_bytes.result _ _ c.in_ok-bytes.ensures.value) ∙ c.read_bytes.ensures) in
     rw (p.1, p.2, line) (
-      c.in_err-kind.ensures.refusal ∙ ap (λ f. frame_refusal (nth f 0) (length c.in_ok-digits.digits.now / 2)) told.1
-      ∙ whole_line c.in_ok-digits.digits.now c.if-is_empty.ensures told.0
+    c.in_err-kind.ensures.refusal ∙ ap (λ f. frame_refusal (nth f 0) (length c.in_ok-digits.digits.now / 2)) told.1
+    ∙ whole_line c.in_ok-digits.digits.now c.if-is_empty.ensures told.0
     )
 
 pub returns-clause-refusal : goal.returns-clause-refusal
@@ -46,8 +45,8 @@ returns-clause-refusal c =
     let line = stripped c.args.line.now _ _ (some_of _ _ _ c.in_ok-digits.ensures.value) c.strip_suffix.ensures.cases in
     let told = told_some _ _ _ (sym (some_of c.read_bytes.result _ _ c.in_ok-bytes.ensures.value) ∙ c.read_bytes.ensures) in
     rw line (
-      c.in_ok-kind.ensures.refusal ∙ ap (λ f. frame_refusal (nth f 0) (length c.in_ok-digits.digits.now / 2)) told.1
-      ∙ whole_line c.in_ok-digits.digits.now c.if-is_empty.ensures told.0
+    c.in_ok-kind.ensures.refusal ∙ ap (λ f. frame_refusal (nth f 0) (length c.in_ok-digits.digits.now / 2)) told.1
+    ∙ whole_line c.in_ok-digits.digits.now c.if-is_empty.ensures told.0
     )
 
 pub returns-clause-frame : goal.returns-clause-frame

@@ -1,10 +1,8 @@
 -- `lines::test_frame` meets its contract: kind, length and place decide, in this order.
 -- Assumes nothing.
-use Rattle.std.proofs.Common.{◌≡◌, true, refl, ap, sym, ◌∙◌}
+use Rattle.std.proofs.Common.{ap, sym, ◌∙◌}
 use Rattle.std.proofs.lemmas.Result.{err_from_is_err_and}
 use Rattle.tasks.specs.Told.{number_of}
-use Rattle.lines.specs.Frame.{length_of_kind, sort_of}
-use Rattle.lines.specs.Refusal.{in_problem, frame_refusal}
 use Rattle.lines.proofs.FrameLaws.{is_known}
 use Rattle.lines.proofs.RefusalLaws.{no_kind, wrong_length, misplaced, well_placed}
 use Rattle.lines.proofs.test_frame.Goals as goal
