@@ -1,15 +1,10 @@
 -- A line as it is written, byte by byte, over what was there.
 -- Assumes nothing.
-use Prim.Native.Nat.{ℕ, ◌+◌, ◌*◌, ◌≤◌, ◌<◌}
-use native.Mathlib.Numerals.{add-one}
-use native.Mathlib.Omega.{arith}
-use mathlib.Core.Path.{◌≡◌, refl, sym, ap, ◌∙◌}
-use mathlib.Core.List.{List, [], ◌∷◌, ◌++◌}
-use lib.ListN.{length, set, take}
-use lib.Seq.{sets, take-suc, length-take-le}
-use Rattle.laws.specs.Lists.{nth}
-use Rattle.lines.specs.Lines.{digits, line_of}
-use Rattle.lines.proofs.ListLaws.{sets_append}
+use Rattle.std.proofs.Common.{ℕ, ◌≡◌, ◌+◌, ◌*◌, ◌/◌, ◌%◌, ◌≤◌, ◌<◌, List, [], ◌∷◌, ◌++◌, length, take, set, refl, sym, ap, ◌∙◌, arith, add-one, append_assoc, length-append}
+use lib.Seq.{take-suc, take_all, length-take-le}
+use Rattle.laws.specs.Lists.{nth, over}
+use Rattle.lines.specs.Lines.{hex_of, digits, line_of}
+use Rattle.lines.proofs.ListLaws.{over_more}
 
 -- two digits a byte
 pub digits_length : (f : List ℕ) → length (digits f) ≡ length f * 2
@@ -17,37 +12,43 @@ unfolding digits
 digits_length [] = refl
 digits_length (b ∷ f) = omega (arith, digits_length f)
 
-pub digits_append : (f g : List ℕ) → digits (f ++ g) ≡ digits f ++ digits g
+digits_append : (f g : List ℕ) → digits (f ++ g) ≡ digits f ++ digits g
 unfolding digits
 digits_append [] g = refl
 digits_append (b ∷ f) g = rw (digits_append f g)
 
-module _ (out₀ : List ℕ) (at : ℕ) (frame : List ℕ) where
+module _ (frame out₀ : List ℕ) (room : length frame * 2 + 1 ≤ length out₀) (k next : ℕ) (out : List ℕ) (q : next ≡ k * 2)
+    (e : out ≡ over (digits (take k frame)) out₀) where
+  abbrev passed : List ℕ
+  passed = digits (take k frame)
+
+  size : k ≤ length frame → length passed ≡ next
+  size l = digits_length (take k frame) ∙ ap (λ n. n * 2) (length-take-le k frame l) ∙ sym q
+
   -- one more byte of a frame
-  pub one_byte : (k next : ℕ) (out out' : List ℕ) → k < length frame → next ≡ at + k * 2 → out ≡ sets out₀ at (digits (take k frame))
-      → out' ≡ sets out next (digits (nth frame k ∷ [])) → out' ≡ sets out₀ at (digits (take (k + 1) frame))
-  one_byte k next out out' l q e e' =
-      e' ∙ ap (λ o. sets o next last) e ∙ ap (λ j. sets (sets out₀ at (digits (take k frame))) j last) (q ∙ ap (λ j. at + j) (sym size))
-      ∙ sym (sets_append (digits (take k frame)) last out₀ at) ∙ ap (sets out₀ at) whole
+  pub one_byte : (high low : ℕ) → k < length frame → high ≡ hex_of (nth frame k / 16) → low ≡ hex_of (nth frame k % 16)
+      → set (set out next high) (next + 1) low ≡ over (digits (take (k + 1) frame)) out₀
+  unfolding digits
+  one_byte high low l h h' =
+      ap (λ o. set (set o next high) (next + 1) low) e ∙ ap (λ n. set (set (over passed out₀) n high) (next + 1) low) (sym s)
+      ∙ ap (λ o. set o (next + 1) low) (over_more passed out₀ high (omega (arith, s))) ∙ ap (λ n. set (over (passed ++ (high ∷ [])) out₀) n low) (sym s')
+      ∙ over_more (passed ++ (high ∷ [])) out₀ low (omega (arith, s')) ∙ ap (λ d. over d out₀) whole
     where
-      last : List ℕ
-      last = digits (nth frame k ∷ [])
+      s : length passed ≡ next
+      s = size (omega arith)
 
-      size : length (digits (take k frame)) ≡ k * 2
-      size = digits_length (take k frame) ∙ ap (λ n. n * 2) (length-take-le k frame (omega arith))
+      s' : length (passed ++ (high ∷ [])) ≡ next + 1
+      s' = length-append passed (high ∷ []) ∙ ap (λ n. n + 1) s
 
-      whole : digits (take k frame) ++ last ≡ digits (take (k + 1) frame)
-      whole = sym (digits_append (take k frame) (nth frame k ∷ [])) ∙ ap digits (sym (take-suc frame k 0 l) ∙ ap (λ n. take n frame) (sym (add-one k)))
+      whole : (passed ++ (high ∷ [])) ++ (low ∷ []) ≡ digits (take (k + 1) frame)
+      whole =
+          append_assoc passed (high ∷ []) (low ∷ []) ∙ rw (h, h') (sym (digits_append (take k frame) (nth frame k ∷ [])))
+          ∙ ap digits (sym (take-suc frame k 0 l) ∙ ap (λ n. take n frame) (sym (add-one k)))
 
   -- and the line feed behind the last
-  pub line_end : (k n next : ℕ) (out : List ℕ) → k ≡ n → k ≤ length frame → next ≡ at + k * 2 → out ≡ sets out₀ at (digits (take k frame))
-      → set out next 10 ≡ sets out₀ at (line_of (take n frame))
+  pub line_feed : k ≡ length frame → set out next 10 ≡ over (line_of frame) out₀
   unfolding line_of
-  line_end k n next out r l q e =
-      ap (λ o. set o next 10) e
-      ∙ ap (λ j. set (sets out₀ at (digits (take k frame))) j 10) (q ∙ ap (λ j. at + j) (sym size))
-      ∙ sym (sets_append (digits (take k frame)) (10 ∷ []) out₀ at)
-      ∙ ap (λ x. sets out₀ at (line_of (take x frame))) r
-    where
-      size : length (digits (take k frame)) ≡ k * 2
-      size = digits_length (take k frame) ∙ ap (λ n. n * 2) (length-take-le k frame l)
+  line_feed r =
+      let s = size (omega arith) in
+      ap (λ o. set o next 10) e ∙ ap (λ n. set (over passed out₀) n 10) (sym s) ∙ over_more passed out₀ 10 (omega (arith, s))
+      ∙ ap (λ f. over (digits f ++ (10 ∷ [])) out₀) (take_all k frame (omega arith))

@@ -1,13 +1,12 @@
--- Ranges of bytes, and the longest frame.
+-- Ranges of bytes, and the bytes that are no kind.
 -- Assumes nothing.
-use Prim.Native.Nat.{ℕ, ◌≤◌, ◌<◌}
-use mathlib.Core.Path.{◌≡◌, refl, ap}
-use mathlib.Core.Bool.{Bool, true, false, ◌&&◌}
-use lib.Dec.{leb, leb→le}
-use borrow.Author.Tests.{le-leb, lt-leb}
-use Rattle.laws.proofs.TestLaws.{all_at}
+use Rattle.std.proofs.Common.{ℕ, zero, suc, ◌≡◌, ◌≤◌, ◌<◌, Bool, true, false, ◌&&◌, refl, ap, arith, nat_le}
+use borrow.Author.Tests.{le-leb, lt-leb, ne_eqb}
 use Rattle.tasks.specs.Refusal.{within}
-use Rattle.lines.specs.Frame.{length_of_kind}
+use Rattle.lines.specs.declared.Kind.{Kind}
+use Rattle.lines.specs.declared.Kind.TheVariants.{Cores, Task, Rates, Limit, Verdict, Slot, End}
+use Rattle.lines.specs.Frame.{sort_of, code_of}
+use Rattle.lines.specs.Refusal.{is_kind}
 
 module _ (a b x : ℕ) where
   -- a number in a range
@@ -18,17 +17,32 @@ module _ (a b x : ℕ) where
   -- below it
   pub below : x < a → within a b x ≡ false
   unfolding within
-  below l = ap (λ t. t && leb x b) (lt-leb a x l)
+  below l = ap (λ t. t && nat_le x b) (lt-leb a x l)
 
   -- above it
   pub above : b < x → within a b x ≡ false
   unfolding within
-  above h = rw (lt-leb x b h) (never (leb a x))
+  above h = rw (lt-leb x b h) (never (nat_le a x))
     where
       never : (t : Bool) → t && false ≡ false
       never true = refl
       never false = refl
 
--- no frame is longer than 10 bytes
-pub length_most : (kind : ℕ) → kind < 8 → length_of_kind kind ≤ 10
-length_most kind l = leb→le _ _ (all_at 8 (λ k. leb (length_of_kind k) 10) tt kind l)
+-- 00 is no kind, nor is a byte over 07
+pub no_code : (code : ℕ) → (0 < code → 7 < code) → is_kind (sort_of code) ≡ false
+unfolding sort_of within
+no_code zero h = refl
+no_code (suc k) h =
+    let l : 7 < suc k = h (omega arith) in
+    rw (above 1 4 (suc k) (omega arith), ne_eqb (suc k) 7 (λ q. omega arith), above 5 6 (suc k) (omega arith))
+
+-- a kind is known
+pub is_known : (kind : Kind) → is_kind (sort_of (code_of kind)) ≡ true
+unfolding sort_of within
+is_known Cores = refl
+is_known Task = refl
+is_known Rates = refl
+is_known Limit = refl
+is_known Verdict = refl
+is_known Slot = refl
+is_known End = refl

@@ -1,7 +1,7 @@
 mod FrameLaws
+mod DigitLaws
 pub mod LineLaws
 pub mod ListLaws
 pub mod RefusalLaws
-mod DigitLaws
-pub mod Calls
 pub mod Text
+pub mod Calls

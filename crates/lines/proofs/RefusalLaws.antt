@@ -1,102 +1,76 @@
 -- The refusals of a line.
 -- Assumes nothing.
-use Prim.Native.Nat.{ℕ, ◌+◌, ◌*◌, ◌-◌, ◌/◌, ◌≤◌, ◌<◌}
-use native.Mathlib.Nat.{add-zero}
-use native.Mathlib.Omega.{arith}
-use mathlib.Core.Path.{◌≡◌, refl, sym, ap, ◌∙◌}
-use mathlib.Core.Logic.{◌≢◌, ⊎_elim}
-use mathlib.Core.Bool.{Bool, true, false, not, ◌&&◌, true≢false, false≢true}
-use mathlib.Core.List.{List, [], ◌∷◌}
-use borrow.Author.Tests.{lt-ltb, le-ltb, ltb-true, eqb-true, ne_eqb}
-use lib.Dec.{ltb, eqb}
-use lib.ListN.{length}
-use lib.Seq.{slice, length-slice}
+use Rattle.std.proofs.Common.{ℕ, ◌≡◌, ◌≢◌, ◌/◌, ◌<◌, Bool, true, false, ◌&&◌, List, [], ◌∷◌, length, nat_eq, refl, ap, sym, arith, Option, None, Some, Ok, Err}
+use Rattle.std.specs.Option.{ok_or}
+use mathlib.Core.Bool.{false≢true}
+use borrow.Author.Tests.{eqb-true, eq-eqb, ne_eqb}
 use Rattle.laws.specs.Lists.{nth}
 use Rattle.tasks.specs.Refusal.{unless}
-use Rattle.laws.specs.Tests.{every}
-use Rattle.laws.proofs.SumLaws.{lt_or_ge}
 use Rattle.lines.specs.Frame.{length_of_kind, sort_of}
-use Rattle.lines.specs.Lines.{digit_of, pairs, bytes_of, line_at}
-use Rattle.lines.specs.Refusal.{is_kind, length_refusal, frame_refusal, line_refusal}
-use Rattle.lines.proofs.FrameLaws.{above, length_most}
-use Rattle.lines.proofs.LineLaws.{bytes_length, part_byte}
+use Rattle.lines.specs.Lines.{pairs, bytes_of}
+use Rattle.lines.specs.Refusal.{is_kind, in_problem, length_refusal, frame_refusal, line_refusal}
+use Rattle.lines.proofs.LineLaws.{bytes_length}
 
--- a kind that there is
-pub kind_low : (kind : ℕ) → is_kind (sort_of kind) ≡ true → kind < 8
-unfolding sort_of
-kind_low kind e = ⊎_elim (λ l. l) (λ h. let z : true ≡ false = sym e ∙ high h in absurd (true≢false z)) (lt_or_ge kind 8)
-  where
-    high : 8 ≤ kind → is_kind (sort_of kind) ≡ false
-    high h = rw (above 1 4 kind (omega arith), ne_eqb kind 7 (λ q. omega arith), above 5 6 kind (omega arith))
+-- ---- a frame of so many bytes
+module _ (kind count : ℕ) where
+  -- 22
+  pub no_kind : is_kind (sort_of kind) ≡ false → frame_refusal kind count ≡ 22
+  unfolding frame_refusal unless
+  no_kind e = rw e
 
--- a line of less than a pair
-short_line : (ended : Bool) (s : List ℕ) → length s < 2 → every (ended ∷ pairs s ∷ not (eqb (length s) 0) ∷ []) ≡ false
-unfolding pairs
-short_line true [] l = refl
-short_line true (a ∷ []) l = refl
-short_line true (a ∷ b ∷ s) l = absurd (omega arith)
-short_line false s l = refl
+  module _ (known : is_kind (sort_of kind) ≡ true) where
+    -- 23
+    pub wrong_length : count ≢ length_of_kind kind → frame_refusal kind count ≡ 23
+    unfolding frame_refusal length_refusal unless
+    wrong_length x = rw (known, ne_eqb count (length_of_kind kind) x)
 
--- one of other bytes
-other_line : (ended some : Bool) → every (ended ∷ false ∷ some ∷ []) ≡ false
-other_line true some = refl
-other_line false some = refl
+    -- 24
+    pub misplaced : count ≡ length_of_kind kind → in_problem (sort_of kind) ≡ false → frame_refusal kind count ≡ 24
+    unfolding frame_refusal length_refusal unless
+    misplaced e q = rw (known, eq-eqb count (length_of_kind kind) e, q)
 
-module _ (text : List ℕ) (from to : ℕ) (fits : to ≤ length text) where
-  pub not_ended : to ≡ length text → line_refusal (line_at text from to) ≡ 21
-  unfolding line_refusal unless
-  not_ended e = rw (le-ltb to (length text) (omega arith))
+    -- none
+    pub well_placed : count ≡ length_of_kind kind → in_problem (sort_of kind) ≡ true → frame_refusal kind count ≡ 0
+    unfolding frame_refusal length_refusal unless
+    well_placed e q = rw (known, eq-eqb count (length_of_kind kind) e, q)
 
-  pub too_short : to - from < 2 → line_refusal (line_at text from to) ≡ 21
-  unfolding line_refusal unless
-  too_short l = rw (short_line (ltb to (length text)) (slice from to text) (omega (arith, length-slice from to text fits)))
+-- ---- a line
+-- 21: without a line feed, empty, or not of pairs of digits
+pub not_ended : (s : List ℕ) → line_refusal (record { text = s; ended = false }) ≡ 21
+unfolding line_refusal unless
+not_ended s = refl
 
-  pub not_pairs : pairs (slice from to text) ≡ false → line_refusal (line_at text from to) ≡ 21
-  unfolding line_refusal unless
-  not_pairs e = rw (e, other_line (ltb to (length text)) (not (eqb (length (slice from to text)) 0)))
+pub empty_line : (s : List ℕ) → true ≡ nat_eq (length s) 0 → line_refusal (record { text = s; ended = true }) ≡ 21
+unfolding line_refusal unless pairs
+empty_line [] e = refl
+empty_line (b ∷ s) e = absurd (omega (arith, eqb-true (length (b ∷ s)) 0 (sym e)))
 
-  -- a line of pairs: its frame decides
-  pub whole_line : (kind : ℕ) → to ≢ length text → 2 ≤ to - from → pairs (slice from to text) ≡ true
-      → kind ≡ digit_of (nth text from) * 16 + digit_of (nth text (from + 1)) → frame_refusal kind ((to - from) / 2) ≡ line_refusal (line_at text from to)
-  unfolding line_refusal unless
-  whole_line kind x l e q =
-      rw (lt-ltb to (length text) (omega arith), e, ne_eqb (length (slice from to text)) 0 (λ z. omega (arith, length-slice from to text fits)))
-      (ap (λ k. frame_refusal k ((to - from) / 2)) first ∙ ap (frame_refusal _) (sym count))
-    where
-      first : kind ≡ nth (bytes_of (slice from to text)) 0
-      first = part_byte text from to 0 kind fits (omega arith) (q ∙ rw (add-zero from))
+pub not_pairs : (s : List ℕ) → pairs s ≡ false → line_refusal (record { text = s; ended = true }) ≡ 21
+unfolding line_refusal unless
+not_pairs s e = rw e
 
-      count : length (bytes_of (slice from to text)) ≡ (to - from) / 2
-      count = bytes_length (slice from to text) ∙ ap (λ n. n / 2) (length-slice from to text fits)
+-- a line of pairs: its frame decides
+pub whole_line : (s : List ℕ) → false ≡ nat_eq (length s) 0 → pairs s ≡ true
+    → frame_refusal (nth (bytes_of s) 0) (length s / 2) ≡ line_refusal (record { text = s; ended = true })
+unfolding line_refusal unless
+whole_line s some e = rw (e, ← some) (ap (frame_refusal (nth (bytes_of s) 0)) (sym (bytes_length s)))
+
+-- what an `ok_or` answers comes from
+pub some_of : {A E : Type 0} (o : Option A) (e : E) (x : A) → Ok x ≡ ok_or o e → o ≡ Some x
+some_of None e x q = grind arith
+some_of (Some y) e x q = grind arith
+
+pub none_of : {A E : Type 0} (o : Option A) (e d : E) → Err d ≡ ok_or o e → (o ≡ None) × (d ≡ e)
+none_of None e d q = grind arith
+none_of (Some y) e d q = grind arith
 
 -- two tests that pass together
 pub both_pass : (a b : Bool) → a && b ≡ true → (a ≡ true) × (b ≡ true)
 both_pass true b e = (refl, e)
 both_pass false b e = absurd (false≢true e)
 
--- ---- a line that is not refused
 -- a refusal that is none
 pub unless_none : (b : Bool) (k next : ℕ) → 0 < k → unless b k next ≡ 0 → (b ≡ true) × (next ≡ 0)
 unfolding unless
 unless_none true k next l e = (refl, e)
 unless_none false k next l e = absurd (omega arith)
-
--- has a line feed, and at most 10 bytes
-pub line_passed : (text : List ℕ) (from to : ℕ) → to ≤ length text → line_refusal (line_at text from to) ≡ 0 → (to < length text) × (to ≤ from + 21)
-unfolding line_refusal frame_refusal length_refusal
-line_passed text from to fits e =
-    let a = unless_none _ 21 _ (omega arith) e in
-    let b = unless_none (is_kind (sort_of kind)) 22 _ (omega arith) a.1 in
-    let c = unless_none (eqb (length bytes) (length_of_kind kind)) 23 _ (omega arith) b.1 in (
-      ltb-true to (length text) (both_pass _ (pairs part && (not (eqb (length part) 0) && true)) a.0).0,
-      omega (arith, eqb-true (length bytes) (length_of_kind kind) c.0, length_most kind (kind_low kind b.0), bytes_length part, length-slice from to text fits),
-    )
-  where
-    part : List ℕ
-    part = slice from to text
-
-    bytes : List ℕ
-    bytes = bytes_of part
-
-    kind : ℕ
-    kind = nth bytes 0

@@ -1,3 +1,4 @@
 pub mod Frame
 pub mod Lines
 pub mod Refusal
+pub mod Told

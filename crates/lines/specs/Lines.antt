@@ -1,7 +1,6 @@
 -- Lines of upper-case hexadecimal, as they are read and written.
 -- Assumes nothing.
-use Rattle.std.specs.Prelude.{ℕ, ◌+◌, ◌*◌, ◌-◌, ◌/◌, ◌%◌, ◌≤◌, ◌<◌, ◌≡◌, ◌≢◌, Bool, true, false, cond, ◌&&◌, ◌||◌, List, [], ◌∷◌, ◌++◌, ltb, eqb, length}
-use Rattle.std.proofs.Math.Seq.{slice}
+use Rattle.std.specs.Prelude.{ℕ, ◌+◌, ◌*◌, ◌-◌, ◌/◌, ◌%◌, ◌≤◌, ◌<◌, ◌≡◌, ◌≢◌, Bool, true, false, cond, ◌&&◌, ◌||◌, List, [], ◌∷◌, ◌++◌, ltb, eqb, length, take, pred}
 use Rattle.laws.specs.Lists.{nth}
 use Rattle.tasks.specs.Refusal.{within}
 
@@ -40,9 +39,13 @@ unfoldable pub lines : List ℕ → List Line
 lines [] = []
 lines (b ∷ s) = cond (eqb b 10) (record { text = []; ended = true } ∷ lines s) (before b (lines s))
 
--- the line of a text from one place up to another, which has a line feed unless that is the text's end
-abbrev pub line_at : List ℕ → ℕ → ℕ → Line
-line_at text from to = record { text = slice from to text; ended = ltb to (length text) }
+-- bytes end in a line feed
+abbrev pub ends_in_feed : List ℕ → Bool
+ends_in_feed s = eqb (nth s (pred (length s))) 10
+
+-- the line that bytes are: all before their line feed, or all where they end in none
+unfoldable pub line_in : List ℕ → Line
+line_in s = record { text = cond (ends_in_feed s) (take (pred (length s)) s) s; ended = ends_in_feed s }
 
 -- the line that begins at a place ends here: at the next line feed, or at the text's end
 pub record LineEnd (text : List ℕ) (from to : ℕ) : Type 0 where

@@ -4,9 +4,7 @@ use Rattle.std.specs.Prelude.{ℕ, Bool, true, false, not, [], ◌∷◌, eqb, l
 use Rattle.laws.specs.Tests.{every}
 use Rattle.laws.specs.Lists.{nth}
 use Rattle.tasks.specs.Refusal.{unless}
-use Rattle.lines.specs.declared.Sort.{Sort}
-use Rattle.lines.specs.declared.Sort.TheVariants.{Known, Misplaced, Unknown}
-use Rattle.lines.specs.Frame.{length_of_kind, sort_of}
+use Rattle.lines.specs.Frame.{Sort, Known, Misplaced, Unknown, length_of_kind, sort_of}
 use Rattle.lines.specs.Lines.{Line, pairs, bytes_of}
 
 -- there is such a kind
