@@ -16,40 +16,38 @@ use Rattle.laws.specs.Lists.{nth, over, seek}
 use Rattle.laws.proofs.SumLaws.{gate_lt, gate_ge, lt_or_ge}
 use Rattle.laws.proofs.ListLaws.{first_is, first_none, first_zero, seek_before}
 use Rattle.laws.proofs.TestLaws.{all_fails}
+use Rattle.std.specs.Prelude.{Option, Result}
 use Rattle.tasks.specs.declared.Task.{Task}
+use Rattle.tasks.specs.declared.Refusal.{Refusal}
 use Rattle.tasks.specs.Task.{rate, task}
 use Rattle.tasks.specs.Refusal.{within, unless, or_next, most_rate, rates_fit, task_refusal, list_refusal, table_length, refusal, IsSound}
 use Rattle.tasks.specs.Instance.{instance_of, own_instance}
 use Rattle.tasks.proofs.SoundLaws.{within_is, is_within, rates_at, sound_list, own_regular}
 use Rattle.tasks.proofs.AnswerLaws.{unless_yes, unless_no, rates_under, or_first, or_next_lem}
 use Rattle.table.specs.Table.{cells, Valid}
-use Rattle.table.specs.Fault.{Fault, no_fault, in_cell, in_job, fault}
-use Rattle.rules.specs.Search.{search_refusal}
+use Rattle.table.specs.Fault.{Fault, no_fault, in_cell, in_job, fault, Checked, refused}
+use Rattle.rules.specs.Search.{Searched, search_refusal, search}
 use Rattle.rules.proofs.Told.{refused_told}
 use Rattle.rules.proofs.Demand2.{searches}
-use Rattle.search.specs.declared.Answer.{Answer}
-use Rattle.search.specs.Told.{searched_as}
-use Rattle.checker.specs.declared.Verdict.{Verdict}
-use Rattle.checker.specs.declared.Verdict.TheVariants.{Refused}
-use Rattle.checker.specs.Checks.{checked_as}
+use Rattle.search.proofs.Calls.{Search}
+use Rattle.checker.specs.declared.Fault.{Fault as FaultTold}
+use Rattle.checker.specs.Told.{checked_as}
 use Rattle.checker.proofs.TellLaws.{check_refused, check_short, check_long}
-use Rattle.checker.proofs.Calls.{told_only}
+use Rattle.checker.proofs.Calls.{Checks}
 use Rattle.checker.proofs.Demand2.{names, answer_tells}
-use Rattle.clock.specs.declared.Shown.{Shown}
-use Rattle.clock.specs.declared.Next.{Next}
-use Rattle.clock.specs.Clock.{elapsed_of, step_refusal, advanced, next_if, next_of, answer_or}
+use Rattle.clock.specs.Clock.{Worked, Answered, elapsed_of, step_refusal, advanced, next_if, next_of, answer_or}
 use Rattle.clock.proofs.StepLaws.{refused_spoilt, refused_past, not_refused}
 use Rattle.player.specs.declared.Player.{Player}
 use Rattle.player.specs.Player.{cells_of, stored, stepped, after_step, fault_refusal, check_refusal, start_refusal, record_of, first_shown, started, record_or, after_start}
 use Rattle.player.proofs.RecordLaws.{IsUnspoilt}
 use Rattle.player.proofs.Demand2.{start_verdict}
-use Rattle.player.proofs.Calls.{Step}
+use Rattle.player.proofs.Calls.{Start, Step}
 use Rattle.lines.specs.Lines.{digits, line_of}
-use Rattle.frames.specs.Read.{refused, problem, read_problem}
+use Rattle.frames.specs.Read.{refused as unread, problem, read_problem}
 use Rattle.frames.proofs.ProblemLaws.{read_refused}
 use Rattle.answer.specs.Write.{verdict_frame, slot_lines, write_answer, Written}
 use Rattle.planner.specs.Answer.{search_answer, answer_to_read, answer_to}
-use Rattle.planner.proofs.Calls.{Plan, Check, Start, PlanText}
+use Rattle.planner.proofs.Calls.{PlanText}
 
 -- ---- statements
 -- low..high, and not
@@ -108,31 +106,31 @@ pub data OfStep (p : Player) (tick : ℕ) : ℕ → Type 0 where
   none : IsUnspoilt p → elapsed_of tick p.last < 2 ^ 31 → OfStep p tick 0
 
 -- what a refused start or step shows and leaves: four 0 cells, missed 0, the record as it was
-pub record NothingShown (r : Shown) (p p' : Player) : Type 0 where
+pub record NothingShown (r : Answered) (p p' : Player) : Type 0 where
   pub no_cells : r.cells ≡ 0 ∷ 0 ∷ 0 ∷ 0 ∷ []
   pub none_missed : r.missed ≡ 0
   pub untouched : p' ≡ p
 
 -- a call of `step`, on any record: each verdict exactly when it is due
-pub record StepRefuses (p : Player) (tick : ℕ) (r : Shown) (p' : Player) : Type 0 where
+pub record StepRefuses (p : Player) (tick : ℕ) (r : Answered) (p' : Player) : Type 0 where
   pub exact : (k : ℕ) → (r.verdict ≡ k) ↔ OfStep p tick k
   pub refused : r.verdict ≢ 0 → NothingShown r p p'
 
 -- a call of `start`
-pub record StartRefuses (ts : List Task) (m : ℕ) (t : List ℕ) (r : Shown) (p p' : Player) : Type 0 where
+pub record StartRefuses (ts : List Task) (m : ℕ) (t : List ℕ) (r : Answered) (p p' : Player) : Type 0 where
   pub exact : (k : ℕ) → (r.verdict ≡ k) ↔ OfStart m ts t k
   pub refused : r.verdict ≢ 0 → NothingShown r p p'
 
--- a call of `plan`: it ends in 0, 13 or 14 exactly if it is not refused; a refusal reports 0 tries and leaves the buffer untouched
-pub record PlanRefuses (ts : List Task) (m e : ℕ) (t : List ℕ) (r : Answer) (t' : List ℕ) : Type 0 where
-  pub not_refused : ((r.verdict ≡ 0) ⊎ ((r.verdict ≡ 13) ⊎ (r.verdict ≡ 14))) ↔ OfSearch m ts e t 0
-  pub exact : (k : ℕ) → k ≢ 0 → ((r.verdict ≡ k) × (k ≤ 10)) ↔ OfSearch m ts e t k
-  pub no_tries : {k : ℕ} → k ≢ 0 → OfSearch m ts e t k → r.tries ≡ 0
-  pub untouched : {k : ℕ} → k ≢ 0 → OfSearch m ts e t k → t' ≡ t
+-- a call of `search`: it ends in 0, 13 or 14 exactly if it is not refused; a refusal reports 0 tries and leaves the buffer untouched
+pub record PlanRefuses (ts : List Task) (m e : ℕ) (t : List ℕ) (s : Searched) : Type 0 where
+  pub not_refused : ((s.verdict ≡ 0) ⊎ ((s.verdict ≡ 13) ⊎ (s.verdict ≡ 14))) ↔ OfSearch m ts e t 0
+  pub exact : (k : ℕ) → k ≢ 0 → ((s.verdict ≡ k) × (k ≤ 10)) ↔ OfSearch m ts e t k
+  pub no_tries : {k : ℕ} → k ≢ 0 → OfSearch m ts e t k → s.tries ≡ 0
+  pub untouched : {k : ℕ} → k ≢ 0 → OfSearch m ts e t k → s.buffer ≡ t
 
--- a call of `check`: refusals 1 to 8 and 10
-pub record CheckRefuses (ts : List Task) (m : ℕ) (t : List ℕ) (r : Verdict) : Type 0 where
-  pub exact : (k : ℕ) → (r ≡ Refused k) ↔ (((k ≢ 0) × OfList m ts k) ⊎ ((k ≡ 10) × OfList m ts 0 × (length t < cells (own_instance m ts))))
+-- a call of `check_table`: refusals 1 to 8 and 10
+pub record CheckRefuses (ts : List Task) (m : ℕ) (t : List ℕ) (r : Checked) : Type 0 where
+  pub exact : (k : ℕ) → (r ≡ refused k) ↔ (((k ≢ 0) × OfList m ts k) ⊎ ((k ≡ 10) × OfList m ts 0 × (length t < cells (own_instance m ts))))
 
 -- the text of a refusal: 05 with it as the verdict and 0 tries, then 07, and nothing else
 abbrev pub refusal_text : ℕ → List ℕ
@@ -140,7 +138,7 @@ refusal_text k = line_of (verdict_frame k 0) ++ line_of (7 ∷ [])
 
 -- a call of `plan_text` with room for the longest answer: a refusal, 20 to 24 of the file or 1 to 9 of its problem, is told so; and one without
 pub record TextRefuses (text out : List ℕ) (r : ℕ) (out' : List ℕ) : Type 0 where
-  pub of_file : 15376 ≤ length out → (k : ℕ) → read_problem text ≡ refused k → Within 20 24 k × (r ≡ length (refusal_text k)) × (out' ≡ over (refusal_text k) out)
+  pub of_file : 15376 ≤ length out → (k : ℕ) → read_problem text ≡ unread k → Within 20 24 k × (r ≡ length (refusal_text k)) × (out' ≡ over (refusal_text k) out)
   pub of_problem : 15376 ≤ length out → (m : ℕ) (ts : List Task) (e b : ℕ) → read_problem text ≡ problem m ts e b
       → (k : ℕ) → k ≢ 0 → OfSearch m ts e (replicate 4096 0) k → (k ≤ 9) × (r ≡ length (refusal_text k)) × (out' ≡ over (refusal_text k) out)
   pub no_room : length out < 15376 → (r ≡ 0) × (out' ≡ out)
@@ -297,7 +295,7 @@ start_left : (p made : Player) (k : ℕ) → k ≢ 0 → NothingShown (first_sho
 start_left p made zero x = absurd (x refl)
 start_left p made (suc k) x = record { no_cells = refl; none_missed = refl; untouched = refl }
 
-pub start_refuses : (ts : List Task) (m : ℕ) (t : List ℕ) (p : Player) (tick : ℕ) (r : Shown) (p' : Player) → Start p ts m t tick r p' → StartRefuses ts m t r p p'
+pub start_refuses : (ts : List Task) (m : ℕ) (t : List ℕ) (p : Player) (tick : ℕ) (r : Answered) (p' : Player) → Start p ts m t tick r p' → StartRefuses ts m t r p p'
 unfolding started after_start
 start_refuses ts m t p tick r p' call = record {
   exact = λ k. (λ e. subst (OfStart m ts t) (sym v ∙ e) (start_of m ts t), λ h. v ∙ start_is m ts t h);
@@ -307,23 +305,22 @@ start_refuses ts m t p tick r p' call = record {
     v : r.verdict ≡ start_refusal m ts t
     v = start_verdict ts m t p p' tick r call
 
--- ---- a call of `check`
-pub check_refuses : (ts : List Task) (m : ℕ) (t : List ℕ) (r : Verdict) → Check ts m t r → CheckRefuses ts m t r
-unfolding checked_as
+-- ---- a call of `check_table`
+pub check_refuses : (ts : List Task) (m : ℕ) (t : List ℕ) (r : Result (Option FaultTold) Refusal) → Checks ts m t r → CheckRefuses ts m t (checked_as r)
 check_refuses ts m t r call = record {
   exact = λ k. (
     λ e. ⊎_elim
         (λ h. inl (h.1, subst (OfList m ts) (sym h.0) (list_of m ts)))
         (λ h. inr (h.0, sound_none m ts h.1, h.2))
-        (((answer_tells ts m t r call).refuses_exact k).0 (ap checked_as e)),
-    λ h. told_only r (Refused k) refl (sym (((answer_tells ts m t r call).refuses_exact k).1 (⊎_elim
+        (((answer_tells ts m t r call).refuses_exact k).0 e),
+    λ h. ((answer_tells ts m t r call).refuses_exact k).1 (⊎_elim
         (λ q. inl (sym (list_is m ts q.1), q.0))
         (λ q. inr (q.0, list_is m ts q.1, q.2))
-        h))),
+        h),
   );
 }
 
--- ---- a call of `plan`
+-- ---- a call of `search`
 -- a sound list's table has at most 4096 cells
 pub own_cells : (m : ℕ) (ts : List Task) → IsSound m ts → cells (own_instance m ts) ≤ 4096
 unfolding instance_of
@@ -384,15 +381,15 @@ module _ (m : ℕ) (ts : List Task) (e : ℕ) (t : List ℕ) where
   search_room l (short s a x) = absurd (omega (arith, l, x, own_cells m ts (list_is m ts s)))
   search_room l (none s a b) = omega arith
 
-pub plan_refuses : (ts : List Task) (m e b : ℕ) (t : List ℕ) (r : Answer) (t' : List ℕ) → Plan ts m e b t r t' → PlanRefuses ts m e t r t'
-plan_refuses ts m e b t r t' call = record {
+pub plan_refuses : (ts : List Task) (m e b : ℕ) (t : List ℕ) (r : Searched) → Search ts m e b t r → PlanRefuses ts m e t r
+plan_refuses ts m e b t r call = record {
   not_refused = (only_none, λ h. ends (search_is m ts e t h));
   exact = λ k x. (λ h. exactly k x h.0 h.1, λ h. (ap (λ s. s.verdict) (told x h), search_most m ts e t h));
   no_tries = λ x h. ap (λ s. s.tries) (told x h);
   untouched = λ x h. ap (λ s. s.buffer) (told x h);
 }
   where
-    told : {k : ℕ} → k ≢ 0 → OfSearch m ts e t k → searched_as r t' ≡ record { verdict = k; tries = 0; buffer = t }
+    told : {k : ℕ} → k ≢ 0 → OfSearch m ts e t k → r ≡ record { verdict = k; tries = 0; buffer = t }
     told x h = call ∙ refused_told m ts e b t _ (search_is m ts e t h) x
 
     -- a call that is not refused ends in 0, 13 or 14
@@ -462,18 +459,18 @@ module _ (p : Player) (tick : ℕ) where
       (lt_or_ge (elapsed_of tick p.last) (2 ^ 31)))
       in_range
 
-pub step_refuses : (p : Player) (tick : ℕ) (r : Shown) (p' : Player) → Step p tick r p' → StepRefuses p tick r p'
+pub step_refuses : (p : Player) (tick : ℕ) (r : Answered) (p' : Player) → Step p tick r p' → StepRefuses p tick r p'
 unfolding stepped after_step next_of
 step_refuses p tick r p' call = record {
   exact = λ k. (λ e. subst (OfStep p tick) (sym v ∙ e) (step_of p tick), λ h. v ∙ step_is p tick h);
   refused = λ x. subst₂ (λ a b. NothingShown a p b) (sym call.0) (sym call.1) (left (due p tick) _ (λ z. x (v ∙ z)));
 }
   where
-    shown : ℕ → Next → Shown
+    shown : ℕ → Worked → Answered
     shown k x = let y = next_if k p.last p.position p.age x in answer_or y.verdict (record { verdict = 0; cells = cells_of (stored p y); missed = y.missed })
 
     -- a step's verdict is its refusal
-    verdict_is : (k : ℕ) (x : Next) → x.verdict ≡ 0 → (shown k x).verdict ≡ k
+    verdict_is : (k : ℕ) (x : Worked) → x.verdict ≡ 0 → (shown k x).verdict ≡ k
     verdict_is zero x z = rw z
     verdict_is (suc k) x z = refl
 
@@ -481,7 +478,7 @@ step_refuses p tick r p' call = record {
     v = ap (λ a. a.verdict) call.0 ∙ verdict_is (due p tick) (advanced p.h p.position p.age p.m tick (elapsed_of tick p.last)) refl
 
     -- a refused step
-    left : (k : ℕ) (x : Next) → k ≢ 0 → NothingShown (shown k x) p (stored p (next_if k p.last p.position p.age x))
+    left : (k : ℕ) (x : Worked) → k ≢ 0 → NothingShown (shown k x) p (stored p (next_if k p.last p.position p.age x))
     left zero x y = absurd (y refl)
     left (suc k) x y = record { no_cells = refl; none_missed = refl; untouched = refl }
 

@@ -7,7 +7,9 @@ use mathlib.Core.Logic.{◌≢◌, ◌↔◌}
 use mathlib.Core.List.{List, []}
 use lib.ListN.{length, replicate, length-replicate}
 use Rattle.laws.specs.Lists.{over}
+use Rattle.std.specs.Prelude.{Option, None, Result, Ok}
 use Rattle.tasks.specs.declared.Task.{Task}
+use Rattle.tasks.specs.declared.Refusal.{Refusal}
 use Rattle.tasks.specs.Task.{rate, task}
 use Rattle.tasks.specs.Refusal.{table_length, IsSound}
 use Rattle.tasks.specs.Instance.{instance_of, own_instance}
@@ -16,24 +18,23 @@ use Rattle.table.specs.Table.{cells, Valid}
 use Rattle.table.proofs.TableLaws.{serves_none}
 use Rattle.rules.specs.Search.{Searched, walked, search}
 use Rattle.rules.proofs.Demand2.{Searches, searches}
-use Rattle.search.specs.declared.Answer.{Answer}
-use Rattle.search.specs.Told.{searched_as}
-use Rattle.checker.specs.declared.Verdict.{Verdict}
-use Rattle.checker.specs.declared.Verdict.TheVariants.{Valid as IsValid}
-use Rattle.checker.specs.Checks.{checked_as}
+use Rattle.search.proofs.Calls.{Search}
+use Rattle.checker.specs.declared.Fault.{Fault}
+use Rattle.checker.specs.Told.{checked_as}
+use Rattle.checker.proofs.Calls.{Checks}
 use Rattle.checker.proofs.Demand2.{Tells, answer_tells}
-use Rattle.clock.specs.declared.Shown.{Shown}
-use Rattle.clock.specs.Clock.{elapsed_at}
+use Rattle.clock.specs.Clock.{Answered, elapsed_at}
 use Rattle.clock.proofs.ClockLaws.{tick_after}
 use Rattle.player.specs.declared.Player.{Player}
 use Rattle.player.proofs.Demand2 as played
+use Rattle.player.proofs.Calls.{Start}
 use Rattle.player.proofs.Demand2.{Run, Keeps, Plays}
 use Rattle.lines.specs.Lines.{lines}
 use Rattle.frames.specs.Read.{problem, read_problem}
 use Rattle.frames.proofs.LimitLaws.{limits_in, left_out_quick}
 use Rattle.answer.specs.Write.{write_answer}
 use Rattle.planner.specs.Answer.{search_answer, answer_to_read}
-use Rattle.planner.proofs.Calls.{Plan, Check, Start, PlanText}
+use Rattle.planner.proofs.Calls.{PlanText}
 use Rattle.demands.proofs.Demand1.{own_cells, written_room}
 
 -- ---- words
@@ -43,13 +44,13 @@ pub record WritesAnswer (m : ℕ) (ts : List Task) (s : Searched) (out : List �
   pub holds : out' ≡ over (write_answer s.verdict s.tries (table_length ts) m s.buffer) out
 
 -- ---- theorems
--- a call of `plan` on a sound list, by either engine, with any limit, into a buffer that is long enough
-pub plans : (ts : List Task) (m e b : ℕ) (t : List ℕ) (r : Answer) (t' : List ℕ) → Plan ts m e b t r t' → IsSound m ts → e ≤ 1 → cells (own_instance m ts) ≤ length t
-    → Searches (own_instance m ts) (walked e (own_instance m ts)) b t (searched_as r t')
-plans ts m e b t r t' call sound engine room = subst (Searches (own_instance m ts) (walked e (own_instance m ts)) b t) (sym call) (searches m ts e b t sound engine room)
+-- a call of `search` on a sound list, by either engine, with any limit, into a buffer that is long enough
+pub plans : (ts : List Task) (m e b : ℕ) (t : List ℕ) (r : Searched) → Search ts m e b t r → IsSound m ts → e ≤ 1 → cells (own_instance m ts) ≤ length t
+    → Searches (own_instance m ts) (walked e (own_instance m ts)) b t r
+plans ts m e b t r call sound engine room = subst (Searches (own_instance m ts) (walked e (own_instance m ts)) b t) (sym call) (searches m ts e b t sound engine room)
 
--- a call of `check`, for every list, every number of cores and every table
-pub checks : (ts : List Task) (m : ℕ) (t : List ℕ) (r : Verdict) → Check ts m t r → Tells m ts t (checked_as r)
+-- a call of `check_table`, for every list, every number of cores and every table
+pub checks : (ts : List Task) (m : ℕ) (t : List ℕ) (r : Result (Option Fault) Refusal) → Checks ts m t r → Tells m ts t (checked_as r)
 checks = answer_tells
 
 -- a list with a task of four zero rates: no table serves it
@@ -84,9 +85,9 @@ pub quick_unless_told : (text out : List ℕ) (r : ℕ) (out' : List ℕ) → Pl
     → (s : Searched) × Searches (own_instance m ts) (walked 1 (own_instance m ts)) 1000000 (replicate 4096 0) s × WritesAnswer m ts s out r out'
 quick_unless_told text out r out' call l m ts e b reads none sound = text_plans text out r out' call l m ts 1 1000000 (left_out_quick text m ts e b reads none) sound (omega arith)
 
-module _ (ts : List Task) (m : ℕ) (t : List ℕ) (p : Player) (tick : ℕ → ℕ) (n : ℕ) (shown : ℕ → Shown) (left : ℕ → Player)
-    (valid : Check ts m t IsValid) (run : Run ts m t p tick n shown left) where
-  -- a table that `check` finds valid, played by a call of `start` with the lent tasks and n calls of `step` with every elapsed number 1:
+module _ (ts : List Task) (m : ℕ) (t : List ℕ) (p : Player) (tick : ℕ → ℕ) (n : ℕ) (shown : ℕ → Answered) (left : ℕ → Player)
+    (valid : Checks ts m t (Ok None)) (run : Run ts m t p tick n shown left) where
+  -- a table that `check_table` finds valid, played by a call of `start` with the lent tasks and n calls of `step` with every elapsed number 1:
   -- each job from its first release gets at least its work inside its own window
   pub plays : ((s : ℕ) → s < n → elapsed_at tick s ≡ 1) → Plays m ts t n shown
   plays = played.plays ts m t p tick n shown left valid run
@@ -95,8 +96,8 @@ module _ (ts : List Task) (m : ℕ) (t : List ℕ) (p : Player) (tick : ℕ → 
   pub keeps : ((s : ℕ) → s < n → elapsed_at tick s < 2 ^ 31) → Keeps m ts t tick n shown left
   keeps = played.keeps ts m t p tick n shown left valid run
 
--- a start is accepted exactly if `check` finds the table valid
-pub accepts : (ts : List Task) (m : ℕ) (t : List ℕ) (p p' : Player) (tick : ℕ) (r : Shown) → Start p ts m t tick r p' → (r.verdict ≡ 0) ↔ Check ts m t IsValid
+-- a start is accepted exactly if `check_table` finds the table valid
+pub accepts : (ts : List Task) (m : ℕ) (t : List ℕ) (p p' : Player) (tick : ℕ) (r : Answered) → Start p ts m t tick r p' → (r.verdict ≡ 0) ↔ Checks ts m t (Ok None)
 accepts = played.accepts
 
 -- the board's counter, from any tick on and across its wrap, has every elapsed number 1

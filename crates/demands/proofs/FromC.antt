@@ -10,7 +10,9 @@ use mathlib.Core.List.{List}
 use lib.Arith.{digits_div, digits_mod}
 use lib.ListN.{length}
 use Rattle.laws.proofs.SumLaws.{lt_or_ge}
+use Rattle.std.specs.Prelude.{Option, None, Result, Ok, Err}
 use Rattle.tasks.specs.declared.Task.{Task}
+use Rattle.tasks.specs.declared.Refusal.{Refusal}
 use Rattle.tasks.specs.Task.{task}
 use Rattle.tasks.specs.Refusal.{refusal, table_length, IsSound}
 use Rattle.tasks.specs.Instance.{Instance, instance_of, own_instance}
@@ -21,21 +23,20 @@ use Rattle.rules.specs.Search.{Searched, walked, search_refusal, search}
 use Rattle.rules.proofs.Told.{refused_told}
 use Rattle.rules.proofs.Demand2.{searches}
 use Rattle.search.specs.declared.Answer.{Answer}
-use Rattle.checker.specs.declared.Verdict.{Verdict}
-use Rattle.checker.specs.declared.Verdict.TheVariants.{Valid}
-use Rattle.checker.specs.Checks.{checked_as}
+use Rattle.search.specs.Told.{searched_as}
+use Rattle.search.proofs.Calls.{Search}
+use Rattle.checker.specs.declared.Fault.{Fault as FaultTold}
+use Rattle.checker.specs.Told.{checked_as}
 use Rattle.checker.specs.Faulty.{Wrong, unknown, closed, unrated, twice, WrongWork, too_little, after_complete}
 use Rattle.checker.proofs.TellLaws.{check_refused}
-use Rattle.checker.proofs.Calls.{verdict_from, checked_back}
+use Rattle.checker.proofs.Calls.{Checks, verdict_from, checked_back}
 use Rattle.checker.proofs.Demand2.{tells}
 use Rattle.clock.specs.declared.Shown.{Shown}
-use Rattle.clock.specs.declared.Next.{Next}
-use Rattle.clock.specs.Clock.{elapsed_of, elapsed_at, step_refusal, advanced, next_if, next_of, answer_or}
+use Rattle.clock.specs.Clock.{Worked, Answered, answered_as, elapsed_of, elapsed_at, step_refusal, advanced, next_if, next_of, answer_or}
 use Rattle.player.specs.declared.Player.{Player}
 use Rattle.player.specs.Player.{cells_of, stored, after_step, stepped, record_of, start_refusal, first_shown, started}
-use Rattle.player.proofs.Calls.{Step}
+use Rattle.player.proofs.Calls.{Start, Step}
 use Rattle.player.proofs.Demand2.{Run, Plays, Keeps}
-use Rattle.planner.proofs.Calls.{Plan, Check, Start}
 use Rattle.exports.specs.Packed.{packed_as, check_number, ShownNumber}
 use Rattle.exports.proofs.Calls.{XiphomeraSearch, XiphomeraCheck, XiphomeraStart, XiphomeraStep}
 use Rattle.demands.proofs.Demand1.{list_of, list_most, own_cells, search_of, search_none}
@@ -43,7 +44,7 @@ use Rattle.demands.proofs.Demand2.{accepts, plays, keeps}
 
 -- ---- words
 -- an answer as the header takes it apart: `xiphomera_verdict` is its upper half, `xiphomera_missed` its lower; and the four cells
-pub record Reads (r : ℕ) (cells : List ℕ) (s : Shown) : Type 0 where
+pub record Reads (r : ℕ) (cells : List ℕ) (s : Answered) : Type 0 where
   pub verdict : r / 2 ^ 32 ≡ s.verdict
   pub missed : r % 2 ^ 32 ≡ s.missed
   pub shown : cells ≡ s.cells
@@ -71,7 +72,7 @@ pub record BoardRun (ts : List Task) (m : ℕ) (t : List ℕ) (p : Player) (tick
 
 -- ---- theorems
 -- the halves of an answer
-halves : (r : ℕ) (c : List ℕ) (s : Shown) → ShownNumber r c s → s.missed < 2 ^ 32 → Reads r c s
+halves : (r : ℕ) (c : List ℕ) (s : Answered) → ShownNumber r c s → s.missed < 2 ^ 32 → Reads r c s
 halves r c s told l = record {
   verdict = ap (λ x. x / 2 ^ 32) told.answer ∙ digits_div s.verdict l;
   missed = ap (λ x. x % 2 ^ 32) told.answer ∙ digits_mod s.verdict l;
@@ -150,14 +151,14 @@ module _ (ts : List Task) (m : ℕ) (t : List ℕ) where
       (λ h. omega (arith, h.0))
       (((tells m ts t).refuses_exact k).0 e))
 
-  -- a check is a call of `check`
-  pub from_check : (r : ℕ) → XiphomeraCheck ts m t r → (v : Verdict) × Check ts m t v × ReadsCheck r (checked_as v)
+  -- a check is a call of `check_table`
+  pub from_check : (r : ℕ) → XiphomeraCheck ts m t r → (v : Result (Option FaultTold) Refusal) × Checks ts m t v × ReadsCheck r (checked_as v)
   from_check r call =
-      let v = checked_back (check m ts t) in
+      let v = checked_back m ts t in
       (verdict_from (check m ts t), v, subst₂ ReadsCheck (sym call) (sym v) (check_reads (check m ts t) refl))
 
--- and answers 0 exactly if `check` finds the table valid
-pub from_valid : (ts : List Task) (m : ℕ) (t : List ℕ) (r : ℕ) → XiphomeraCheck ts m t r → (r ≡ 0) ↔ Check ts m t Valid
+-- and answers 0 exactly if `check_table` finds the table valid
+pub from_valid : (ts : List Task) (m : ℕ) (t : List ℕ) (r : ℕ) → XiphomeraCheck ts m t r → (r ≡ 0) ↔ Checks ts m t (Ok None)
 unfolding check_number checked_as
 from_valid ts m t r call = (λ z. sym (none (check m ts t) (sym call ∙ z)), λ v. call ∙ ap check_number (sym v))
   where
@@ -177,7 +178,7 @@ start_reads p ts m t tick r cells p' call = halves r cells _ call.0 (omega (arit
     none p (suc k) = refl
 
 pub from_start : (p : Player) (ts : List Task) (m : ℕ) (t : List ℕ) (tick r : ℕ) (cells : List ℕ) (p' : Player) → XiphomeraStart p ts m t tick r cells p'
-    → (s : Shown) × Start p ts m t tick s p' × Reads r cells s
+    → (s : Answered) × Start p ts m t tick s p' × Reads r cells s
 from_start p ts m t tick r cells p' call = (started m ts t tick, (refl, call.1), start_reads p ts m t tick r cells p' call)
 
 -- a step shows what `step` shows
@@ -185,21 +186,21 @@ step_reads : (p : Player) (tick r : ℕ) (cells : List ℕ) (p' : Player) → Xi
 unfolding stepped after_step next_of
 step_reads p tick r cells p' call = halves r cells _ call.0 (few (step_refusal p.last p.h p.position p.age p.m p.n tick))
   where
-    next : ℕ → Next
+    next : ℕ → Worked
     next k = next_if k p.last p.position p.age (advanced p.h p.position p.age p.m tick (elapsed_of tick p.last))
 
     few : (k : ℕ) → (answer_or (next k).verdict (record { verdict = 0; cells = cells_of (stored p (next k)); missed = (next k).missed })).missed < 2 ^ 32
     few zero = omega arith
     few (suc k) = omega arith
 
-pub from_step : (p : Player) (tick r : ℕ) (cells : List ℕ) (p' : Player) → XiphomeraStep p tick r cells p' → (s : Shown) × Step p tick s p' × Reads r cells s
+pub from_step : (p : Player) (tick r : ℕ) (cells : List ℕ) (p' : Player) → XiphomeraStep p tick r cells p' → (s : Answered) × Step p tick s p' × Reads r cells s
 from_step p tick r cells p' call = (stepped p tick, (refl, call.1), step_reads p tick r cells p' call)
 
 -- a board's program
 module _ (ts : List Task) (m : ℕ) (t : List ℕ) (p : Player) (tick : ℕ → ℕ) (n : ℕ) (answer : ℕ → ℕ) (cells : ℕ → List ℕ) (left : ℕ → Player)
     (board : BoardRun ts m t p tick n answer cells left) where
   -- what its calls show
-  shown : ℕ → Shown
+  shown : ℕ → Answered
   shown zero = started m ts t (tick 0)
   shown (suc s) = stepped (left s) (tick (suc s))
 
@@ -214,16 +215,16 @@ module _ (ts : List Task) (m : ℕ) (t : List ℕ) (p : Player) (tick : ℕ → 
 
   -- whose start is not refused
   module _ (accepted : answer 0 / 2 ^ 32 ≡ 0) where
-    valid : Check ts m t Valid
+    valid : Checks ts m t (Ok None)
     unfolding shown
     valid = (accepts ts m t p (left 0) (tick 0) (shown 0) (refl, board.starts.1)).0 (sym (reads 0 (omega arith)).verdict ∙ accepted)
 
     -- with every elapsed number 1 it is shown what the table demands: each job from its first release gets at least its work inside its own window
     pub board_plays : ((s : ℕ) → s < n → elapsed_at tick s ≡ 1)
-        → (shown : ℕ → Shown) × Plays m ts t n shown × ((s : ℕ) → s ≤ n → Reads (answer s) (cells s) (shown s))
+        → (shown : ℕ → Answered) × Plays m ts t n shown × ((s : ℕ) → s ≤ n → Reads (answer s) (cells s) (shown s))
     board_plays each = (shown, plays ts m t p tick n shown left valid run each, reads)
 
     -- and with any elapsed numbers below 2^31 the cells of the time that has passed
     pub board_keeps : ((s : ℕ) → s < n → elapsed_at tick s < 2 ^ 31)
-        → (shown : ℕ → Shown) × Keeps m ts t tick n shown left × ((s : ℕ) → s ≤ n → Reads (answer s) (cells s) (shown s))
+        → (shown : ℕ → Answered) × Keeps m ts t tick n shown left × ((s : ℕ) → s ≤ n → Reads (answer s) (cells s) (shown s))
     board_keeps each = (shown, keeps ts m t p tick n shown left valid run each, reads)
