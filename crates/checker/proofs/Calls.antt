@@ -16,7 +16,7 @@ use Rattle.checker.specs.Told.{fault_as, checked_as}
 use Rattle.checker.specs.contracts.check_table as check_table_call
 
 -- the fault from the rules' numbers
-fault_from : Fault → Option FaultTold
+unfoldable pub fault_from : Fault → Option FaultTold
 fault_from no_fault = None
 fault_from (in_cell s j kind) = Some (Cell s j (kind_from kind))
 fault_from (in_job i k kind) = Some (Job i k (kind_from kind))
@@ -29,7 +29,7 @@ fault_back (Some (Cell s j kind)) = ap (λ k. Some (Cell s j k)) (kind_back kind
 fault_back (Some (Job i k kind)) = ap (λ l. Some (Job i k l)) (kind_back kind)
 
 -- the answer from what is told
-pub answer_from : Checked → Result (Option FaultTold) Refusal
+unfoldable pub answer_from : Checked → Result (Option FaultTold) Refusal
 answer_from (refused number) = Err (refusal_from number)
 answer_from (checked x) = Ok (fault_from x)
 

@@ -136,26 +136,26 @@ module _ {ts : List Task} {m h : ℕ} {t : List ℕ} {slot core : ℕ} (ready : 
     pub idle_there : v ≡ 0 → nothing ≡ effect_of P (nth t) c
     idle_there z = effect_idle P (nth t) c (sym ev ∙ z)
 
-    module _ (some : v ≢ 0) where
+    module _ (some : v ≢ 0) {place : ℕ} (ep : place ≡ v - 1) where
       x : nth t c ≢ 0
       x z = some (ev ∙ z)
 
       -- an unknown task number
-      pub unknown_there : length ts < v → faulty 1 ≡ effect_of P (nth t) c
+      pub unknown_there : length ts ≤ place → faulty 1 ≡ effect_of P (nth t) c
       unfolding instance_of
-      unknown_there l = effect_faulty P (nth t) c x (sym (kind_unknown P (nth t) c x (rw ev at l))) (λ z. omega arith)
+      unknown_there l = effect_faulty P (nth t) c x (sym (kind_unknown P (nth t) c x (omega (arith, ev)))) (λ z. omega arith)
 
-      module _ (l : v ≤ length ts) {place : ℕ} (ep : place ≡ v - 1) where
-        -- its task
-        abbrev τ : Task
-        τ = task ts (suc place)
-
+      module _ (l : place < length ts) {τ : Task} (eτ : τ ≡ task ts (suc place)) where
+        -- the task is the cell's
         task_is : τ ≡ task ts (nth t c)
-        task_is = let e : suc place ≡ nth t c = omega (arith, ev) in ap (task ts) e
+        task_is = let e : suc place ≡ nth t c = omega (arith, ev) in eτ ∙ ap (task ts) e
+
+        known : nth t c ≤ length ts
+        known = omega (arith, ev)
 
         -- what the open test requires
         pub window_ready : Fit h τ × (slot < h)
-        window_ready = (rw ready.slots (sound_fit (listed ready) (suc place) (λ z. omega arith) (omega arith)), at.0)
+        window_ready = (rw (ready.slots, eτ) (sound_fit (listed ready) (suc place) (λ z. omega arith) l), at.0)
 
         -- whether it is open
         opens_is : is_open h τ.offset.0 τ.deadline.0 τ.period.0 slot ≡ P.opens (nth t c) (slot_of P c)
@@ -185,7 +185,7 @@ module _ {ts : List Task} {m h : ℕ} {t : List ℕ} {slot core : ℕ} (ready : 
           kind_is =
               ek
               ∙ (λ i. known_kind ((told_opens h slot τ r er ∙ opens_is) i) (ltb 0 ((es ∙ rate_is) i)) ((ef ∙ (λ i. free_in t (ea i * eb i) core (ev i)) ∙ free_of (nth t c)) i))
-              ∙ sym (kind_known P (nth t) c x (rw ev at l))
+              ∙ sym (kind_known P (nth t) c x known)
 
           -- one of them fails
           pub faulty_there : k ≢ 0 → faulty k ≡ effect_of P (nth t) c

@@ -3,7 +3,7 @@
 use Prim.Native.Nat.{ℕ, ◌≤◌, ◌<◌}
 use native.Mathlib.Decide.{ℕ_discrete}
 use native.Mathlib.Omega.{arith}
-use mathlib.Core.Path.{◌≡◌, sym, ap, subst, ◌∙◌}
+use mathlib.Core.Path.{◌≡◌, refl, sym, ap, subst, ◌∙◌}
 use mathlib.Core.Logic.{◌≢◌, ◌↔◌, ◌⊎◌, inl, inr, ⊎_elim}
 use mathlib.Core.List.{List}
 use Rattle.std.specs.Prelude.{Option, Result}
@@ -13,15 +13,20 @@ use Rattle.laws.proofs.SumLaws.{lt_or_ge}
 use Rattle.tasks.specs.declared.Task.{Task}
 use Rattle.tasks.specs.Refusal.{refusal, IsSound}
 use Rattle.tasks.specs.Instance.{Instance, instance_of, own_instance, Regular}
+use Rattle.tasks.specs.Told.{number_of}
+use Rattle.tasks.proofs.RefusalLaws.{refusal_from, named as number_named}
+use Rattle.tasks.proofs.AnswerLaws.{refusal_most}
 use Rattle.tasks.proofs.SoundLaws.{own_regular}
+use Rattle.faults.specs.Told.{kind_number}
+use Rattle.faults.proofs.Calls.{kind_from, kind_named}
 use Rattle.table.specs.Table.{cells, Valid}
 use Rattle.table.specs.Fault.{Fault, no_fault, in_cell, in_job, fault, Checked, refused, checked, check}
 use Rattle.tasks.specs.declared.Refusal.{Refusal}
 use Rattle.checker.specs.declared.Fault.{Fault as FaultTold}
 use Rattle.checker.specs.Told.{checked_as}
-use Rattle.checker.specs.Faulty.{FirstCell, FirstJob}
+use Rattle.checker.specs.Faulty.{Wrong, unknown, closed, unrated, twice, WrongWork, too_little, after_complete, FirstCell, FirstJob}
 use Rattle.checker.proofs.FaultLaws.{Says, named, faultless, none_valid, valid_none}
-use Rattle.checker.proofs.Calls.{Checks}
+use Rattle.checker.proofs.Calls.{answer_from, fault_from, Checks}
 use Rattle.checker.proofs.TellLaws.{check_refused, check_short, check_long}
 
 -- ---- statements
@@ -117,3 +122,30 @@ module _ (m : ℕ) (ts : List Task) (t : List ℕ) where
 -- so does the answer of a call
 pub answer_tells : (ts : List Task) (m : ℕ) (t : List ℕ) (r : Result (Option FaultTold) Refusal) → Checks ts m t r → Tells m ts t (checked_as r)
 answer_tells ts m t r e = subst (Tells m ts t) (sym e) (tells m ts t)
+
+-- each answer that is told is one of the code's: its refusal has a name, and so has its kind of fault
+module _ {P : Instance} {f : ℕ → ℕ} where
+  cell_named : {c kind : ℕ} → Wrong P f c kind → kind_number (kind_from kind) ≡ kind
+  cell_named (unknown l) = kind_named 1 (λ z. omega arith) (omega arith)
+  cell_named (closed x k n) = kind_named 2 (λ z. omega arith) (omega arith)
+  cell_named (unrated x k o z) = kind_named 3 (λ z. omega arith) (omega arith)
+  cell_named (twice x k o s d l q e) = kind_named 4 (λ z. omega arith) (omega arith)
+
+  job_named : {i k kind : ℕ} → WrongWork P f i k kind → kind_number (kind_from kind) ≡ kind
+  job_named (too_little l) = kind_named 5 (λ z. omega arith) (omega arith)
+  job_named (after_complete c m e s h) = kind_named 6 (λ z. omega arith) (omega arith)
+
+pub checked_back : (m : ℕ) (ts : List Task) (t : List ℕ) → checked_as (answer_from (check m ts t)) ≡ check m ts t
+unfolding answer_from fault_from
+checked_back m ts t = go (check m ts t) (tells m ts t)
+  where
+    refusal_named : (r : ℕ) → ((r ≡ refusal m ts) × (r ≢ 0)) ⊎ ((r ≡ 10) × IsSound m ts × (length t < cells (own_instance m ts))) → number_of (refusal_from r) ≡ r
+    refusal_named r = ⊎_elim
+        (λ q. number_named r q.1 (omega (arith, q.0, refusal_most m ts)))
+        (λ q. number_named r (λ z. omega (arith, q.0)) (omega (arith, q.0)))
+
+    go : (x : Checked) → Tells m ts t x → checked_as (answer_from x) ≡ x
+    go (refused r) h = ap refused (refusal_named r ((h.refuses_exact r).0 refl))
+    go (checked no_fault) h = refl
+    go (checked (in_cell s j kind)) h = ap (λ k. checked (in_cell s j k)) (cell_named (h.names_cell s j kind refl).is_wrong)
+    go (checked (in_job i k kind)) h = ap (λ l. checked (in_job i k l)) (job_named (h.names_job i k kind refl).is_wrong)

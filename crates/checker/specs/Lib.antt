@@ -1,3 +1,4 @@
 pub mod Checks
+pub mod For
 pub mod Told
 pub mod Faulty

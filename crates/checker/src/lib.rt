@@ -3,7 +3,6 @@
 
 ghost use Rattle.std.specs.Prelude.{◌≡◌, ◌+◌, ◌*◌, ◌<◌};
 ghost use Rattle.laws.specs.Lists.{nth};
-ghost use Rattle.tasks.specs.Instance.{instance_of};
 ghost use Rattle.table.specs.Fault.{check};
 ghost use Rattle.checker.specs.Checks.{Checkable};
 ghost use Rattle.checker.specs.Told.{fault_as, checked_as, effect_as, effect_of, Counted, CellsTold, job_fault_in};
@@ -39,23 +38,24 @@ struct Table<'a> {
 }
 
 impl<'a> Table<'a> {
+    ghost use Rattle.checker.specs.For.{instance_for};
+
     // What a cell does; nothing, where it is idle.
     fn effect(&self, slot: u16, core: u8) -> Result<Option<Share>, Kind>
         requires { (slot < self.now.len.0) × (core < self.now.m) }
-        ensures { effect_as result ≡ effect_of (instance_of self.now.len.0 self.now.m self.now.tasks.now) (nth self.now.cells.now) (slot * self.now.m + core) }
+        ensures { effect_as result ≡ effect_of (instance_for self.now) (nth self.now.cells.now) (slot * self.now.m + core) }
     {
         let first = usize::from(slot) * usize::from(self.m);
         let value = self.cells[first + usize::from(core)];
         if value == IDLE {
             return Ok(None);
         }
-        if self.tasks.len() < usize::from(value) {
-            return Err(Kind::UnknownTask);
-        }
         let place = value - 1;
-        let task = self.tasks[usize::from(place)];
+        let Some(task) = self.tasks.get(usize::from(place)) else {
+            return Err(Kind::UnknownTask);
+        };
         let rate = u16::from(task.rates.on(usize::from(core)));
-        let here = windows::open_in(self.len, task, Slots(slot));
+        let here = windows::open_in(self.len, *task, Slots(slot));
         let free = faults::free(self.cells, first, core, value);
         faults::test_cell(here.opens, 0 < rate, free)?;
         Ok(Some(Share {
@@ -67,8 +67,8 @@ impl<'a> Table<'a> {
 
     // The first faulty cell, in table order; `counts` has the counts of the jobs after the cells before it.
     fn first_cell(&self, counts: &mut [u16; 16384]) -> Option<Fault>
-        requires { Counted (instance_of self.now.len.0 self.now.m self.now.tasks.now) (nth self.now.cells.now) 0 counts.old }
-        ensures { CellsTold (instance_of self.now.len.0 self.now.m self.now.tasks.now) (nth self.now.cells.now) result counts.new }
+        requires { Counted (instance_for self.now) (nth self.now.cells.now) 0 counts.old }
+        ensures { CellsTold (instance_for self.now) (nth self.now.cells.now) result counts.new }
     {
         for slot in 0..self.len.0 {
             for core in 0..self.m {

@@ -1,7 +1,9 @@
 -- What a call of each public function ensures, as its contract says, and that it leaves one answer; table and counters are only read.
 -- Assumes nothing.
-use Prim.Native.Nat.{ℕ, zero, suc}
+use Prim.Native.Nat.{ℕ, zero, suc, ◌≤◌}
+use native.Mathlib.Omega.{arith}
 use mathlib.Core.Path.{◌≡◌, refl, ap}
+use mathlib.Core.Logic.{◌≢◌}
 use mathlib.Core.Bool.{Bool}
 use Rattle.std.specs.Prelude.{List, [], ◌∷◌, get_or, Result, Ok, Err, Option, None, Some}
 use Rattle.laws.proofs.Only.{Says, only, only_told}
@@ -57,6 +59,18 @@ kind_back Rate0 = refl
 kind_back AlreadyInSlot = refl
 kind_back TooLittleWork = refl
 kind_back AfterComplete = refl
+
+-- and a number from 1 to 6 is the kind's that it is of
+pub kind_named : (k : ℕ) → k ≢ 0 → k ≤ 6 → kind_number (kind_from k) ≡ k
+unfolding kind_from kinds
+kind_named zero x l = absurd (x refl)
+kind_named (suc zero) x l = refl
+kind_named (suc (suc zero)) x l = refl
+kind_named (suc (suc (suc zero))) x l = refl
+kind_named (suc (suc (suc (suc zero)))) x l = refl
+kind_named (suc (suc (suc (suc (suc zero))))) x l = refl
+kind_named (suc (suc (suc (suc (suc (suc zero)))))) x l = refl
+kind_named (suc (suc (suc (suc (suc (suc (suc k))))))) x l = absurd (omega arith)
 
 -- the answer of a test by the number of what it finds
 test_from : ℕ → Result (Unit {0}) Kind
