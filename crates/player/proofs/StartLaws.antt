@@ -2,7 +2,7 @@
 -- Assumes nothing.
 use Prim.Native.Nat.{ℕ, zero, suc, ◌+◌, ◌*◌, ◌^◌, ◌≤◌, ◌<◌}
 use mathlib.Core.Path.{◌≡◌, refl, sym, ap, ap₂, subst, ◌∙◌}
-use mathlib.Core.Logic.{◌≢◌}
+use mathlib.Core.Logic.{◌≢◌, ⊎_elim}
 use mathlib.Core.Bool.{true, false}
 use mathlib.Core.List.{List, [], ◌∷◌}
 use native.Mathlib.Nat.{mul-le-mul}
@@ -11,6 +11,7 @@ use lib.ListN.{length}
 use Rattle.std.specs.Prelude.{Option, None, Some, Result, Ok, Err}
 use Rattle.std.specs.Option.{is_some}
 use Rattle.laws.specs.Lists.{nth}
+use Rattle.laws.proofs.SumLaws.{lt_or_ge}
 use Rattle.tasks.specs.declared.Task.{Task}
 use Rattle.tasks.specs.declared.Slots.{Slots}
 use Rattle.tasks.specs.declared.Refusal.{Refusal}
@@ -25,8 +26,7 @@ use Rattle.checker.specs.declared.Fault.{Fault as FaultTold}
 use Rattle.checker.specs.declared.Fault.TheVariants.{Cell, Job}
 use Rattle.checker.specs.Checks.{Checkable}
 use Rattle.checker.specs.Told.{fault_as, checked_as}
-use Rattle.checker.proofs.TellLaws.{check_refused}
-use Rattle.checker.proofs.Demand2.{tells}
+use Rattle.checker.proofs.TellLaws.{check_refused, check_short}
 use Rattle.clock.specs.Clock.{Answered}
 use Rattle.clock.proofs.ClockLaws.{tick_after}
 use Rattle.player.specs.declared.Player.{Player}
@@ -69,32 +69,27 @@ module _ (m : ℕ) (ts : List Task) (t : List ℕ) where
   faultless None none e = e
   faultless (Some x) none e = cc
 
-  -- ---- a start that is not refused
-  module _ (h : Slots) (x : Option FaultTold) (sound : tested_as (Ok h) ≡ tested m ts) (told : checked_as (Ok x) ≡ check m ts t) (none : false ≡ is_some x) where
-    valid : checked no_fault ≡ check m ts t
-    valid = faultless x none told
+  -- ---- a start whose list is sound and whose table the checker looked at
+  module _ (h : Slots) (x : Option FaultTold) (sound : tested_as (Ok h) ≡ tested m ts) (told : checked_as (Ok x) ≡ check m ts t) where
+    list_sound : IsSound m ts × (h.0 ≡ table_length ts)
+    list_sound = tested_sound m ts (Ok h) sound h refl
 
-    -- it has no number
-    taken : start_refusal m ts t ≡ 0
-    taken = sym (ap check_refusal valid)
-
-    list_sound : IsSound m ts
-    list_sound = (tested_sound m ts (Ok h) sound h refl).0
-
-    -- its table can be copied
+    -- the table can be copied
     pub checkable : Checkable ts m h.0 t
     unfolding instance_of
-    checkable =
-        let s = tested_sound m ts (Ok h) sound h refl in
-        record { sound = s.0; slots = s.1; long = rw s.1 ((tells m ts t).valid_exact.0 (sym valid)).1 }
+    checkable = record { sound = list_sound.0; slots = list_sound.1; long = rw (list_sound.1) (⊎_elim (λ l. let e = check_short m ts t list_sound.0 l in cc) (λ l. l) (lt_or_ge (length t) (table_length ts * m))) }
+
+    -- it has no number, if there is no fault
+    taken : false ≡ is_some x → start_refusal m ts t ≡ 0
+    taken none = sym (ap check_refusal (faultless x none told))
 
     -- a step at the same tick answers for slot 0 and leaves the record as it is
-    module _ (tick : ℕ) (l : tick < 2 ^ 32) where
+    module _ (none : false ≡ is_some x) (tick : ℕ) (l : tick < 2 ^ 32) where
       abbrev made : Player
       made = record_of m ts t tick
 
       unspoilt : IsUnspoilt made
-      unspoilt = made_unspoilt (sound_list m ts list_sound) t tick
+      unspoilt = made_unspoilt (sound_list m ts list_sound.0) t tick
 
       made_now : moved made 0 ≡ made
       unfolding record_of
@@ -108,6 +103,6 @@ module _ (m : ℕ) (ts : List Task) (t : List ℕ) where
       unfolding started after_start
       starts p = (
         ap₂ stepped (sym made_now) (sym same_tick) ∙ moved_answer made unspoilt 0 0 (omega arith)
-        ∙ rw taken (ap (λ q. record { verdict = 0; cells = cells_of q; missed = 0 }) made_now),
-        ap₂ after_step (sym made_now) (sym same_tick) ∙ moved_step made unspoilt 0 0 (omega arith) ∙ rw taken made_now,
+        ∙ rw (taken none) (ap (λ q. record { verdict = 0; cells = cells_of q; missed = 0 }) made_now),
+        ap₂ after_step (sym made_now) (sym same_tick) ∙ moved_step made unspoilt 0 0 (omega arith) ∙ rw (taken none) made_now,
       )

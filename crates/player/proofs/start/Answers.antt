@@ -22,7 +22,7 @@ pub returns-then-is_some : goal.returns-then-is_some
 returns-then-is_some c = start_refused _ _ _ _ _ _ (faulty_refused _ _ _ _ c.if-is_some.ensures c.in_ok-fault.ensures) (λ z. omega arith)
 
 pub record_of-requires : goal.record_of-requires
-record_of-requires c = checkable _ _ _ _ _ c.in_ok-h.ensures c.in_ok-fault.ensures c.if-is_some.ensures
+record_of-requires c = checkable _ _ _ _ _ c.in_ok-h.ensures c.in_ok-fault.ensures
 
 pub returns : goal.returns
 returns c =
