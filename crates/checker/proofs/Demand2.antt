@@ -6,6 +6,7 @@ use native.Mathlib.Omega.{arith}
 use mathlib.Core.Path.{◌≡◌, sym, ap, subst, ◌∙◌}
 use mathlib.Core.Logic.{◌≢◌, ◌↔◌, ◌⊎◌, inl, inr, ⊎_elim}
 use mathlib.Core.List.{List}
+use Rattle.std.specs.Prelude.{Option, Result}
 use lib.ListN.{length}
 use Rattle.laws.specs.Lists.{nth}
 use Rattle.laws.proofs.SumLaws.{lt_or_ge}
@@ -15,8 +16,9 @@ use Rattle.tasks.specs.Instance.{Instance, instance_of, own_instance, Regular}
 use Rattle.tasks.proofs.SoundLaws.{own_regular}
 use Rattle.table.specs.Table.{cells, Valid}
 use Rattle.table.specs.Fault.{Fault, no_fault, in_cell, in_job, fault, Checked, refused, checked, check}
-use Rattle.checker.specs.declared.Verdict.{Verdict}
-use Rattle.checker.specs.Checks.{checked_as}
+use Rattle.tasks.specs.declared.Refusal.{Refusal}
+use Rattle.checker.specs.declared.Fault.{Fault as FaultTold}
+use Rattle.checker.specs.Told.{checked_as}
 use Rattle.checker.specs.Faulty.{FirstCell, FirstJob}
 use Rattle.checker.proofs.FaultLaws.{Says, named, faultless, none_valid, valid_none}
 use Rattle.checker.proofs.Calls.{Checks}
@@ -113,5 +115,5 @@ module _ (m : ℕ) (ts : List Task) (t : List ℕ) where
   ]
 
 -- so does the answer of a call
-pub answer_tells : (ts : List Task) (m : ℕ) (t : List ℕ) (r : Verdict) → Checks ts m t r → Tells m ts t (checked_as r)
+pub answer_tells : (ts : List Task) (m : ℕ) (t : List ℕ) (r : Result (Option FaultTold) Refusal) → Checks ts m t r → Tells m ts t (checked_as r)
 answer_tells ts m t r e = subst (Tells m ts t) (sym e) (tells m ts t)

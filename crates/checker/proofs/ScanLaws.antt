@@ -9,6 +9,7 @@ use mathlib.Core.Path.{◌≡◌, refl, sym, ap, ap₂, subst, ◌∙◌}
 use mathlib.Core.Logic.{◌≢◌}
 use mathlib.Core.Bool.{Bool, true, false, ◌&&◌}
 use mathlib.Core.List.{List}
+use Rattle.std.specs.Prelude.{Option, None, Some, Ok}
 use lib.Dec.{T, ltb}
 use lib.ListN.{set, length-set}
 use lib.Seq.{get_or-set_same, get_or-set_other}
@@ -19,20 +20,21 @@ use Rattle.laws.specs.Tests.{imp}
 use Rattle.laws.specs.Lists.{nth, seek}
 use Rattle.laws.proofs.SumLaws.{gate_yes, gate_no}
 use Rattle.laws.proofs.ListLaws.{seek_is, seek_none}
-use Rattle.tasks.specs.declared.Work.{Work}
-use Rattle.tasks.specs.declared.TaskList.{TaskList}
+use Rattle.tasks.specs.declared.Task.{Task}
 use Rattle.tasks.specs.Instance.{Instance, instance_of}
 use Rattle.table.specs.Table.{cells, slot_of, core_of, of_job, share, done}
-use Rattle.table.specs.Fault.{cell_kind, all_needed, in_cell, checked}
+use Rattle.table.specs.Fault.{cell_kind, all_needed, in_cell}
 use Rattle.table.proofs.JobLaws.{job_slot_lem, slot_job}
 use Rattle.table.proofs.ShareLaws.{of_job_lem, is_of_job}
 use Rattle.table.proofs.TableLaws.{slot_there}
 use Rattle.faults.specs.Tests.{counter_at, unneeded, count_of, counted}
 use Rattle.faults.proofs.TestLaws.{counted_count}
-use Rattle.checker.specs.declared.Verdict.TheVariants.{Valid, Cell}
-use Rattle.checker.specs.declared.Effect.{Effect}
-use Rattle.checker.specs.declared.Effect.TheVariants.{Nothing, Does, Faulty}
-use Rattle.checker.specs.Checks.{checked_as, instance_for, Checkable, At, effect_if, effect_of, job_count, Counted, cell_fault, CellsTold}
+use Rattle.faults.specs.declared.Kind.{Kind}
+use Rattle.faults.specs.Told.{kind_number}
+use Rattle.checker.specs.declared.Share.{Share}
+use Rattle.checker.specs.declared.Fault.TheVariants.{Cell}
+use Rattle.checker.specs.Checks.{Checkable}
+use Rattle.checker.specs.Told.{nothing, does, faulty, effect_as, effect_if, effect_of, job_count, Counted, cell_fault, CellsTold}
 use Rattle.checker.specs.Faulty.{Fine}
 use Rattle.checker.proofs.FaultLaws.{after, kind_idle, kind_fine}
 use Rattle.checker.proofs.CellLaws.{Small, ready_small, the_slot, the_core, cell_in}
@@ -45,32 +47,32 @@ pub record Passed (P : Instance) (f : ℕ → ℕ) (c : ℕ) (counters : List �
 -- ---- what an effect says of its cell
 module _ (P : Instance) (f : ℕ → ℕ) (c : ℕ) where
   -- nothing: it is idle
-  nothing_is : effect_of P f c ≡ Nothing → f c ≡ 0
+  nothing_is : effect_of P f c ≡ nothing → f c ≡ 0
   unfolding effect_of
   nothing_is = go (f c) (cell_kind P f c) _ _ _
     where
-      go : (v k y C s : ℕ) → effect_if v k y C s ≡ Nothing → v ≡ 0
+      go : (v k y C s : ℕ) → effect_if v k y C s ≡ nothing → v ≡ 0
       go zero k y C s e = refl
       go (suc v) zero y C s e = let z : ◌≡◌ {A = ℕ} 0 1 = cc in absurd (omega arith)
       go (suc v) (suc k) y C s e = let z : ◌≡◌ {A = ℕ} 0 1 = cc in absurd (omega arith)
 
   -- so much work for the job of a counter: the task there has no fault
-  does_is : (x : ℕ) (w n : Work) → effect_of P f c ≡ Does x n w
-      → (f c ≢ 0) × (cell_kind P f c ≡ 0) × (x ≡ counter_at (pred (f c)) (P.job (f c) (slot_of P c))) × (w.0 ≡ P.rate (f c) (core_of P c)) × (n.0 ≡ P.work (f c))
+  does_is : (x w n : ℕ) → effect_of P f c ≡ does x n w
+      → (f c ≢ 0) × (cell_kind P f c ≡ 0) × (x ≡ counter_at (pred (f c)) (P.job (f c) (slot_of P c))) × (w ≡ P.rate (f c) (core_of P c)) × (n ≡ P.work (f c))
   unfolding effect_of
   does_is x w n = go (f c) (cell_kind P f c) _ _ _
     where
-      go : (v k y C s : ℕ) → effect_if v k y C s ≡ Does x n w → (v ≢ 0) × (k ≡ 0) × (x ≡ y) × (w.0 ≡ s) × (n.0 ≡ C)
+      go : (v k y C s : ℕ) → effect_if v k y C s ≡ does x n w → (v ≢ 0) × (k ≡ 0) × (x ≡ y) × (w ≡ s) × (n ≡ C)
       go zero k y C s e = let z : ◌≡◌ {A = ℕ} 0 1 = cc in absurd (omega arith)
       go (suc v) zero y C s e = (λ z. omega arith, refl, cc, cc, cc)
       go (suc v) (suc k) y C s e = let z : ◌≡◌ {A = ℕ} 0 1 = cc in absurd (omega arith)
 
   -- a fault: it is the cell's
-  faulty_is : (kind : ℕ) → effect_of P f c ≡ Faulty kind → (cell_kind P f c ≡ kind) × (kind ≢ 0)
+  faulty_is : (kind : ℕ) → effect_of P f c ≡ faulty kind → (cell_kind P f c ≡ kind) × (kind ≢ 0)
   unfolding effect_of
   faulty_is kind = go (f c) (cell_kind P f c) _ _ _
     where
-      go : (v k y C s : ℕ) → effect_if v k y C s ≡ Faulty kind → (k ≡ kind) × (kind ≢ 0)
+      go : (v k y C s : ℕ) → effect_if v k y C s ≡ faulty kind → (k ≡ kind) × (kind ≢ 0)
       go zero k y C s e = let z : ◌≡◌ {A = ℕ} 0 1 = cc in absurd (omega arith)
       go (suc v) zero y C s e = let z : ◌≡◌ {A = ℕ} 0 1 = cc in absurd (omega arith)
       go (suc v) (suc k) y C s e = let q : suc k ≡ kind = cc in (q, λ z. omega arith)
@@ -120,7 +122,7 @@ module _ {P : Instance} {f : ℕ → ℕ} {counters : List ℕ} where
 
   module _ {c : ℕ} (p : Passed P f c counters) where
     -- after an idle cell
-    pub rests : effect_of P f c ≡ Nothing → Passed P f (c + 1) counters
+    pub rests : effect_of P f c ≡ nothing → Passed P f (c + 1) counters
     rests e =
         let z = nothing_is P f c e in
         record {
@@ -133,8 +135,8 @@ module _ {P : Instance} {f : ℕ → ℕ} {counters : List ℕ} where
         }
 
     -- at a cell that does work
-    module _ (small : Small P) (l : c < cells P) {x : ℕ} {w n : Work} (e : effect_of P f c ≡ Does x n w) where
-      is : (f c ≢ 0) × (cell_kind P f c ≡ 0) × (x ≡ counter_at (pred (f c)) (P.job (f c) (slot_of P c))) × (w.0 ≡ P.rate (f c) (core_of P c)) × (n.0 ≡ P.work (f c))
+    module _ (small : Small P) (l : c < cells P) {x : ℕ} {w n : ℕ} (e : effect_of P f c ≡ does x n w) where
+      is : (f c ≢ 0) × (cell_kind P f c ≡ 0) × (x ≡ counter_at (pred (f c)) (P.job (f c) (slot_of P c))) × (w ≡ P.rate (f c) (core_of P c)) × (n ≡ P.work (f c))
       is = does_is P f c x w n e
 
       fine : Fine P f c
@@ -171,7 +173,7 @@ module _ {P : Instance} {f : ℕ → ℕ} {counters : List ℕ} where
       little = small.little_work (f c) is.0 fine.known
 
       -- and there is room for one cell more
-      pub work_fits : n.0 + w.0 ≤ 65535
+      pub work_fits : n + w ≤ 65535
       work_fits = omega (
         arith,
         is.3,
@@ -181,20 +183,20 @@ module _ {P : Instance} {f : ℕ → ℕ} {counters : List ℕ} where
       )
 
       -- after it
-      pub works : Passed P f (c + 1) (set counters x (counted n.0 (nth counters x) w.0))
+      pub works : Passed P f (c + 1) (set counters x (counted n (nth counters x) w))
       works = record {
         clean = below_more _ c p.clean is.1;
         counted = record { size = simp length-set p.counted.size; count = counts };
       }
         where
-          counts : (a b : ℕ) → a < 16 → b < 1024 → nth (set counters x (counted n.0 (nth counters x) w.0)) (counter_at a b) ≡ job_count P (c + 1) f (suc a) b
+          counts : (a b : ℕ) → a < 16 → b < 1024 → nth (set counters x (counted n (nth counters x) w)) (counter_at a b) ≡ job_count P (c + 1) f (suc a) b
           counts a b la lb = elim (ℕ_discrete (counter_at a b) x) [
             | yes q ↦ ap (nth (set counters x _)) q ∙ get_or-set_same counters x _ 0 (omega (arith, counter_in, p.counted.size)) ∙ more q
             | no y ↦ get_or-set_other counters x (counter_at a b) _ 0 y ∙ p.counted.count a b la lb ∙ sym (count_other P f c (suc a) b (others y))
           ]
             where
               -- the job's own counter
-              more : counter_at a b ≡ x → counted n.0 (nth counters x) w.0 ≡ job_count P (c + 1) f (suc a) b
+              more : counter_at a b ≡ x → counted n (nth counters x) w ≡ job_count P (c + 1) f (suc a) b
               more q =
                   let t : suc a ≡ f c = omega (arith, q, is.2, few_i, after (f c) is.0) in
                   let j : b ≡ k = omega (arith, q, is.2, few_i) in
@@ -209,14 +211,14 @@ module _ {P : Instance} {f : ℕ → ℕ} {counters : List ℕ} where
                   y (sym (is.2 ∙ (λ m. counter_at (pred (q.0 m)) ((ap (λ u. P.job u (slot_of P c)) q.0 ∙ (slot_job P (suc a) b (slot_of P c) q.1).1) m))))
 
     -- at a faulty cell
-    pub stops : c < cells P → {kind : ℕ} → effect_of P f c ≡ Faulty kind → {s j : ℕ} → slot_of P c ≡ s → core_of P c ≡ j
-        → CellsTold P f (Cell s (j + 1) kind) counters
-    unfolding checked_as cell_fault
+    pub stops : c < cells P → {kind : Kind} → effect_of P f c ≡ faulty (kind_number kind) → {s j : ℕ} → slot_of P c ≡ s → core_of P c ≡ j
+        → CellsTold P f (Some (Cell s (j + 1) kind)) counters
+    unfolding cell_fault
     stops l {kind} e {s} {j} es ej =
-        let q = faulty_is P f c kind e in
+        let q = faulty_is P f c (kind_number kind) e in
         let at : seek (cells P) (cell_kind P f) ≡ c = seek_is (cells P) c (cell_kind P f) l p.clean (λ z. q.1 (sym q.0 ∙ z)) in
         record {
-          told = rw (at, lt-ltb c (cells P) l) (λ i. checked (in_cell (sym es i) (next i) (sym q.0 i)));
+          told = rw (at, lt-ltb c (cells P) l) (λ i. in_cell (sym es i) (next i) (sym q.0 i));
           counted = rw at p.counted;
         }
       where
@@ -224,8 +226,8 @@ module _ {P : Instance} {f : ℕ → ℕ} {counters : List ℕ} where
         next = rw add-one (ap suc (sym ej))
 
   -- after the last cell
-  pub ends : Passed P f (cells P) counters → CellsTold P f Valid counters
-  unfolding checked_as cell_fault
+  pub ends : Passed P f (cells P) counters → CellsTold P f None counters
+  unfolding cell_fault
   ends p =
       let at : seek (cells P) (cell_kind P f) ≡ cells P = seek_none (cells P) (cell_kind P f) p.clean in
       record {
@@ -234,36 +236,42 @@ module _ {P : Instance} {f : ℕ → ℕ} {counters : List ℕ} where
       }
 
 -- ---- the cells as the code passes them
--- the cell is one of the table's
-cell_there : {list : TaskList} {m h : ℕ} {t : List ℕ} {slot core : ℕ} → At list m h t slot core → slot * m + core < cells (instance_for list m h)
-unfolding instance_of
-cell_there at = cell_in at.ready _ _ at.slot_in at.core_in
+module _ {ts : List Task} {m h : ℕ} {t : List ℕ} (ready : Checkable ts m h t) where
+  module _ {slot core : ℕ} (at : (slot < h) × (core < m)) {counters : List ℕ} (p : Passed (instance_of h m ts) (nth t) (slot * m + core) counters) where
+    -- the cell is one of the table's
+    cell_there : slot * m + core < cells (instance_of h m ts)
+    unfolding instance_of
+    cell_there = cell_in ready _ _ at.0 at.1
 
-module _ {list : TaskList} {m h : ℕ} {t : List ℕ} {slot core : ℕ} (at : At list m h t slot core) {counters : List ℕ}
-    (p : Passed (instance_for list m h) (nth t) (slot * m + core) counters) {r : Effect} (e : r ≡ effect_of (instance_for list m h) (nth t) (slot * m + core)) where
-  -- after an idle cell
-  pub rests_at : r ≡ Nothing → Passed (instance_for list m h) (nth t) (slot * m + (core + 1)) counters
-  rests_at q = as_far (rests p (sym e ∙ q)) (omega arith)
+    module _ {effect : Option Share} (e : effect_as (Ok effect) ≡ effect_of (instance_of h m ts) (nth t) (slot * m + core)) where
+      -- after an idle cell
+      pub rests_at : effect ≡ None → Passed (instance_of h m ts) (nth t) (slot * m + (core + 1)) counters
+      rests_at q = as_far (rests p (sym e ∙ ap (λ o. effect_as (Ok o)) q)) (omega arith)
 
-  -- at one that does work: its counter
-  pub counter_there : {x : ℕ} {w n : Work} → r ≡ Does x n w → x < 16384
-  counter_there q = counter_in p (ready_small at.ready) (cell_there at) (sym e ∙ q)
+      -- at one that does work
+      module _ {share : Share} (q : effect ≡ Some share) where
+        work_there : effect_of (instance_of h m ts) (nth t) (slot * m + core) ≡ does share.counter share.work.0 share.does.0
+        work_there = sym e ∙ ap (λ o. effect_as (Ok o)) q
 
-  -- with room for the work
-  pub fits_at : {x : ℕ} {w n : Work} → r ≡ Does x n w → n.0 + w.0 ≤ 65535
-  fits_at q = work_fits p (ready_small at.ready) (cell_there at) (sym e ∙ q)
+        -- its counter
+        pub counter_there : share.counter < 16384
+        counter_there = counter_in p (ready_small ready) cell_there work_there
 
-  -- after it
-  pub works_at : {x : ℕ} {w n : Work} → r ≡ Does x n w → {count : ℕ} → count ≡ counted n.0 (nth counters x) w.0
-      → Passed (instance_for list m h) (nth t) (slot * m + (core + 1)) (set counters x count)
-  works_at q s = rw s (as_far (works p (ready_small at.ready) (cell_there at) (sym e ∙ q)) (omega arith))
+        -- with room for the work
+        pub fits_at : share.work.0 + share.does.0 ≤ 65535
+        fits_at = work_fits p (ready_small ready) cell_there work_there
 
-  -- at a faulty cell
-  pub stops_at : {kind : ℕ} → r ≡ Faulty kind → CellsTold (instance_for list m h) (nth t) (Cell slot (core + 1) kind) counters
-  stops_at q = stops p (cell_there at) (sym e ∙ q) (the_slot at) (the_core at)
+        -- after it
+        pub works_at : {count : ℕ} → count ≡ counted share.work.0 (nth counters share.counter) share.does.0
+            → Passed (instance_of h m ts) (nth t) (slot * m + (core + 1)) (set counters share.counter count)
+        works_at s = rw s (as_far (works p (ready_small ready) cell_there work_there) (omega arith))
 
--- after the last slot
-pub ends_at : {list : TaskList} {m h : ℕ} {t : List ℕ} → Checkable list m h t → {slot : ℕ} {counters : List ℕ}
-    → Passed (instance_for list m h) (nth t) (slot * m) counters → slot ≡ h → CellsTold (instance_for list m h) (nth t) Valid counters
-unfolding instance_of
-ends_at {m = m} ready p e = ends (as_far p (ap (λ n. n * m) e))
+    -- at a faulty cell
+    pub stops_at : {kind : Kind} → faulty (kind_number kind) ≡ effect_of (instance_of h m ts) (nth t) (slot * m + core)
+        → CellsTold (instance_of h m ts) (nth t) (Some (Cell slot (core + 1) kind)) counters
+    stops_at e = stops p cell_there (sym e) (the_slot ready at) (the_core ready at)
+
+  -- after the last slot
+  pub ends_at : {slot : ℕ} {counters : List ℕ} → Passed (instance_of h m ts) (nth t) (slot * m) counters → slot ≡ h → CellsTold (instance_of h m ts) (nth t) None counters
+  unfolding instance_of
+  ends_at p e = ends (as_far p (ap (λ n. n * m) e))

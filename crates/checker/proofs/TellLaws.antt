@@ -6,6 +6,7 @@ use native.Mathlib.Omega.{arith}
 use mathlib.Core.Path.{◌≡◌, refl, sym, ap, subst, ◌∙◌}
 use mathlib.Core.Logic.{◌≢◌, ⊎_elim}
 use mathlib.Core.List.{List}
+use Rattle.std.specs.Prelude.{Option, None, Some, Ok, Err}
 use lib.ListN.{length, replicate, length-replicate, get_or-replicate}
 use borrow.Author.Tests.{lt-leb, le-leb, lt-ltb, le-ltb, ne_eqb}
 use Rattle.laws.specs.Sum.{sum}
@@ -14,13 +15,14 @@ use Rattle.laws.proofs.SumLaws.{gate_ge, lt_or_ge}
 use Rattle.laws.proofs.ListLaws.{seek_same, seek_le, seek_some, first_same}
 use Rattle.tasks.specs.declared.Slots.{Slots}
 use Rattle.tasks.specs.declared.Task.{Task}
-use Rattle.tasks.specs.declared.TaskList.{TaskList}
-use Rattle.tasks.specs.declared.Soundness.{Soundness}
-use Rattle.tasks.specs.declared.Soundness.TheVariants.{Sound, Refused as NotSound}
-use Rattle.tasks.specs.Task.{task, rows}
-use Rattle.tasks.specs.Refusal.{unless, or_next, refusal, table_length, IsSound, tested_as, tested, Periods}
+use Rattle.tasks.specs.declared.Refusal.{Refusal}
+use Rattle.tasks.specs.declared.Refusal.TheVariants.{Buffer}
+use Rattle.tasks.specs.Task.{task}
+use Rattle.tasks.specs.Refusal.{unless, or_next, refusal, table_length, IsSound, tested}
+use Rattle.tasks.specs.Told.{tested_as}
 use Rattle.tasks.specs.Instance.{Instance, instance_of, own_instance}
 use Rattle.tasks.proofs.SoundLaws.{sound_list}
+use Rattle.tasks.proofs.RefusalLaws.{some_number}
 use Rattle.tasks.proofs.AnswerLaws.{tested_sound, tested_refused}
 use Rattle.table.specs.Table.{cells, done}
 use Rattle.table.specs.Fault.{cell_kind, all_needed, job_kind, no_fault, in_job, first_job, job_fault, fault, refused, checked, checked_if, check}
@@ -28,10 +30,11 @@ use Rattle.table.proofs.TableLaws.{done_more}
 use Rattle.table.proofs.WorkLaws.{not_needed, needed_few}
 use Rattle.faults.specs.Tests.{counter_at, count_of, count_kind, counted_kind}
 use Rattle.faults.proofs.TestLaws.{count_kind_lem}
-use Rattle.checker.specs.declared.Verdict.{Verdict}
-use Rattle.checker.specs.declared.Verdict.TheVariants.{Valid, Cell, Job, Refused}
-use Rattle.checker.specs.Checks.{checked_as, instance_for, Checkable, job_count, Counted, cell_fault, CellsTold, job_fault_in}
-use Rattle.checker.proofs.CellLaws.{Small, few_listed, few_slots, ready_small}
+use Rattle.checker.specs.declared.Fault.{Fault as FaultTold}
+use Rattle.checker.specs.declared.Fault.TheVariants.{Cell, Job}
+use Rattle.checker.specs.Checks.{Checkable}
+use Rattle.checker.specs.Told.{fault_as, checked_as, job_count, Counted, cell_fault, CellsTold, job_fault_in}
+use Rattle.checker.proofs.CellLaws.{Small, ready_small}
 
 -- ---- refusals
 module _ (m : ℕ) (ts : List Task) (t : List ℕ) where
@@ -100,94 +103,72 @@ job_counted {P} small f i k x l = count_kind_lem (P.work i) (done P (cells P) f 
     (λ n. let d = not_needed P f (cells P) i k n in omega (arith, d.4, done_more P d.0 (cells P) f i k (omega (arith, d.1))))
 
 -- so the counters tell the first faulty job
-jobs_counted : {list : TaskList} {m h : ℕ} {t : List ℕ} → Checkable list m h t → {counters : List ℕ} → Counted (instance_for list m h) (nth t) (cells (instance_for list m h)) counters
-    → job_fault_in counters h (rows list) ≡ job_fault (instance_for list m h) (nth t)
+jobs_counted : {ts : List Task} {m h : ℕ} {t : List ℕ} → Checkable ts m h t → {counters : List ℕ} → Counted (instance_of h m ts) (nth t) (cells (instance_of h m ts)) counters
+    → job_fault_in counters h ts ≡ job_fault (instance_of h m ts) (nth t)
 unfolding instance_of job_fault_in counted_kind
-jobs_counted {list} {m} {h} {t} ready {counters} n = job_same (length (rows list)) (instance_for list m h).jobs
-    (λ i. counted_kind counters (pred i) (task (rows list) i).work.0) (job_kind (instance_for list m h) (nth t))
-    (λ i k l q. ap (count_kind (task (rows list) (suc i)).work.0) (n.count i k (omega (arith, small.few_tasks)) (omega (arith, small.few_jobs (suc i))))
+jobs_counted {ts} {m} {h} {t} ready {counters} n = job_same (length ts) (instance_of h m ts).jobs
+    (λ i. counted_kind counters (pred i) (task ts i).work.0) (job_kind (instance_of h m ts) (nth t))
+    (λ i k l q. ap (count_kind (task ts (suc i)).work.0) (n.count i k (omega (arith, small.few_tasks)) (omega (arith, small.few_jobs (suc i))))
     ∙ job_counted small (nth t) (suc i) k (λ z. omega arith) l)
   where
-    small : Small (instance_for list m h)
+    small : Small (instance_of h m ts)
     small = ready_small ready
 
 -- ---- the answer
--- what is told of a valid table
-valid_told : checked no_fault ≡ checked_as Valid
-unfolding checked_as
-valid_told = refl
+-- a fault that is told is not none
+some_told : (x : FaultTold) → fault_as (Some x) ≢ no_fault
+some_told (Cell s j kind) e = let z : ◌≡◌ {A = ℕ} 0 1 = cc in omega arith
+some_told (Job i k kind) e = let z : ◌≡◌ {A = ℕ} 0 1 = cc in omega arith
 
--- nothing else is told so
-not_valid : (r : Verdict) → r ≢ Valid → checked_as r ≡ checked no_fault → ⊥
-unfolding checked_as
-not_valid Valid o e = absurd (o refl)
-not_valid (Cell s j k) o e = let z : ◌≡◌ {A = ℕ} 0 1 = cc in omega arith
-not_valid (Job i k d) o e = let z : ◌≡◌ {A = ℕ} 0 1 = cc in omega arith
-not_valid (Refused n) o e = let z : ◌≡◌ {A = ℕ} 0 1 = cc in omega arith
-
--- a list that is not refused has few cells
-pub few_cells : (list : TaskList) (m : ℕ) {s : Soundness} {len : Slots} → tested_as s ≡ tested m (rows list) → s ≡ Sound len → len.0 * m ≤ 4096
-few_cells list m {s} {len} e q =
-    let r = tested_sound m (rows list) s e len q in
-    let l = sound_list m (rows list) r.0 in
-    mul-le-mul {n₂ = 1024} (omega (arith, r.1, l.few_slots)) l.few_cores
-
-module _ (list : TaskList) (m : ℕ) (t : List ℕ) {s : Soundness} (e : tested_as s ≡ tested m (rows list)) where
+module _ (m : ℕ) (ts : List Task) (t : List ℕ) where
   -- a list that is refused
-  pub refused_told : {number : ℕ} → s ≡ NotSound number → checked_as (Refused number) ≡ check m (rows list) t
-  unfolding checked_as
-  refused_told {number} q =
-      let r = tested_refused m (rows list) s e number q in
-      ap refused r.0 ∙ sym (check_refused m (rows list) t (λ z. r.1 (r.0 ∙ z)))
+  pub refused_told : (r : Refusal) → tested_as (Err r) ≡ tested m ts → checked_as (Err r) ≡ check m ts t
+  refused_told r e =
+      let q = tested_refused m ts (Err r) e r refl in
+      ap refused q ∙ sym (check_refused m ts t (λ z. some_number r (q ∙ z)))
 
-  module _ {len : Slots} (q : s ≡ Sound len) where
-    sound : IsSound m (rows list) × (len.0 ≡ table_length (rows list))
-    sound = tested_sound m (rows list) s e len q
+  module _ {len : Slots} (e : tested_as (Ok len) ≡ tested m ts) where
+    sound : IsSound m ts × (len.0 ≡ table_length ts)
+    sound = tested_sound m ts (Ok len) e len refl
+
+    -- a list that is not has few cells
+    pub few_cells : len.0 * m ≤ 4096
+    few_cells = let l = sound_list m ts sound.0 in mul-le-mul {n₂ = 1024} (omega (arith, sound.1, l.few_slots)) l.few_cores
 
     -- a buffer that is too short
-    pub short_told : length t < len.0 * m → checked_as (Refused 10) ≡ check m (rows list) t
-    unfolding checked_as instance_of
-    short_told l = sym (check_short m (rows list) t sound.0 (subst (λ h. length t < h * m) sound.1 l))
+    pub short_told : length t < len.0 * m → checked_as (Err Buffer) ≡ check m ts t
+    unfolding instance_of
+    short_told l = sym (check_short m ts t sound.0 (subst (λ h. length t < h * m) sound.1 l))
 
     -- one that is not
-    pub ready_there : len.0 * m ≤ length t → Checkable list m len.0 t
+    pub ready_there : len.0 * m ≤ length t → Checkable ts m len.0 t
     ready_there l = record { sound = sound.0; slots = sound.1; long = l }
 
-module _ {list : TaskList} {m h : ℕ} {t : List ℕ} (ready : Checkable list m h t) where
+module _ {ts : List Task} {m h : ℕ} {t : List ℕ} (ready : Checkable ts m h t) where
   -- before the first cell no work is done
-  pub counted_none : Counted (instance_for list m h) (nth t) 0 (replicate 16384 0)
+  pub counted_none : Counted (instance_of h m ts) (nth t) 0 (replicate 16384 0)
   unfolding done sum all_needed count_of
   counted_none = record {
     size = length-replicate {A = ℕ} 16384 0;
     count = λ i k l q. get_or-replicate {A = ℕ} 16384 (counter_at i k) 0 0 (omega arith);
   }
 
-  -- what the jobs are tested by
-  pub jobs_ready : (list.n ≤ 16) × (h ≤ 1024) × Periods (rows list)
-  jobs_ready =
-      let l = sound_list m (rows list) ready.sound in
-      (few_listed ready, few_slots ready, λ k q. ((l.in_range (suc k) (λ z. omega arith) q).period_pos, (l.in_range (suc k) (λ z. omega arith) q).period_le))
-
-  check_is : check m (rows list) t ≡ checked (fault (instance_for list m h) (nth t))
+  check_is : check m ts t ≡ checked (fault (instance_of h m ts) (nth t))
   unfolding instance_of
-  check_is = check_long m (rows list) t ready.sound (subst (λ n. n * m ≤ length t) ready.slots ready.long)
-      ∙ ap (λ n. checked (fault (instance_of n m (rows list)) (nth t))) (sym ready.slots)
+  check_is = check_long m ts t ready.sound (subst (λ n. n * m ≤ length t) ready.slots ready.long)
+      ∙ ap (λ n. checked (fault (instance_of n m ts) (nth t))) (sym ready.slots)
 
-  module _ {r : Verdict} {counters : List ℕ} (scan : CellsTold (instance_for list m h) (nth t) r counters) where
-    -- no cell is faulty: the jobs
-    pub jobs_told : r ≡ Valid → (r' : Verdict) → checked_as r' ≡ checked (job_fault_in counters h (rows list)) → checked_as r' ≡ check m (rows list) t
-    jobs_told q r' told =
-        told
-        ∙ ap checked (jobs_counted ready (subst (λ c. Counted (instance_for list m h) (nth t) c counters) none.1 scan.counted) ∙ sym none.0)
-        ∙ sym check_is
-      where
-        clean : checked no_fault ≡ checked (cell_fault (instance_for list m h) (nth t))
-        clean = valid_told ∙ ap checked_as (sym q) ∙ scan.told
+  -- a cell is faulty
+  pub cell_told : {x : FaultTold} {counters : List ℕ} → CellsTold (instance_of h m ts) (nth t) (Some x) counters → checked_as (Ok (Some x)) ≡ check m ts t
+  cell_told {x = x} scan =
+      ap checked (scan.told ∙ sym (cell_first (instance_of h m ts) (nth t) (λ z. some_told x (scan.told ∙ z)))) ∙ sym check_is
 
-        none : (fault (instance_for list m h) (nth t) ≡ job_fault (instance_for list m h) (nth t))
-            × (seek (cells (instance_for list m h)) (cell_kind (instance_for list m h) (nth t)) ≡ cells (instance_for list m h))
-        none = cell_none (instance_for list m h) (nth t) (cc clean)
-
-    -- one is
-    pub cell_told : r ≢ Valid → checked_as r ≡ check m (rows list) t
-    cell_told o = scan.told ∙ ap checked (sym (cell_first (instance_for list m h) (nth t) (λ z. not_valid r o (scan.told ∙ ap checked z)))) ∙ sym check_is
+  -- none is: the jobs
+  pub jobs_told : {counters : List ℕ} → CellsTold (instance_of h m ts) (nth t) None counters → (r : Option FaultTold) → fault_as r ≡ job_fault_in counters h ts
+      → checked_as (Ok r) ≡ check m ts t
+  jobs_told {counters = counters} scan r told =
+      ap checked (told ∙ jobs_counted ready (subst (λ c. Counted (instance_of h m ts) (nth t) c counters) none.1 scan.counted) ∙ sym none.0) ∙ sym check_is
+    where
+      none : (fault (instance_of h m ts) (nth t) ≡ job_fault (instance_of h m ts) (nth t))
+          × (seek (cells (instance_of h m ts)) (cell_kind (instance_of h m ts) (nth t)) ≡ cells (instance_of h m ts))
+      none = cell_none (instance_of h m ts) (nth t) (sym scan.told)

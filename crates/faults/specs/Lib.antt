@@ -1,1 +1,2 @@
 pub mod Tests
+pub mod Told

@@ -1,8 +1,8 @@
 -- What the tests of one cell and of one job say.
 -- Assumes nothing.
-use Rattle.std.specs.Prelude.{ℕ, ◌+◌, ◌*◌, Bool, cond, not, List, ltb, eqb}
+use Rattle.std.specs.Prelude.{ℕ, ◌+◌, ◌*◌, Bool, true, false, cond, not, List, Option, None, Some, ltb, eqb}
 use Rattle.laws.specs.Tests.{all}
-use Rattle.laws.specs.Lists.{nth}
+use Rattle.laws.specs.Lists.{nth, seek}
 use Rattle.table.specs.Fault.{work_kind}
 
 -- the task v stands on none of the earlier cores of the slot that begins at cell first
@@ -32,3 +32,12 @@ count_kind C x = work_kind C x (not (eqb x unneeded))
 -- the fault of job k of the task at a place of the list, by its counter
 unfoldable pub counted_kind : List ℕ → ℕ → ℕ → ℕ → ℕ
 counted_kind counters place C k = count_kind C (nth counters (counter_at place k))
+
+-- job k and its kind, if the test passes
+abbrev pub some_if : Bool → ℕ → ℕ → Option (ℕ × ℕ)
+some_if true k kind = Some (k, kind)
+some_if false k kind = None
+
+-- the first job of n that is faulty, and the kind of its fault, by the kinds of all; none if no job is
+unfoldable pub first_fault : ℕ → (ℕ → ℕ) → Option (ℕ × ℕ)
+first_fault n kind = let k = seek n kind in some_if (ltb k n) k (kind k)
