@@ -1,6 +1,6 @@
 -- A step that takes the record apart: what the clock works out of its numbers, shown with the four cells that the step reads, is the step of the record.
 -- Assumes nothing.
-use Prim.Native.Nat.{ℕ, zero, suc, ◌+◌, ◌*◌, ◌-◌, ◌≤◌, ◌<◌}
+use Prim.Native.Nat.{ℕ, zero, suc, ◌+◌, ◌*◌, ◌≤◌, ◌<◌}
 use mathlib.Core.Path.{◌≡◌, refl, sym, ap, ◌∙◌}
 use mathlib.Core.Logic.{◌≢◌}
 use mathlib.Core.List.{List, [], ◌∷◌}
@@ -10,7 +10,7 @@ use Rattle.std.proofs.lemmas.List.{get_or-take, get_or-drop}
 use Rattle.laws.specs.Lists.{nth}
 use Rattle.laws.proofs.ListLaws.{tab_same}
 use Rattle.clock.specs.declared.Next.{Next}
-use Rattle.clock.specs.Clock.{Worked, stays_of, step_refusal, next_of, cell_of, shown_of, Answered}
+use Rattle.clock.specs.Clock.{stays_of, step_refusal, next_of, cell_of, shown_of}
 use Rattle.clock.proofs.StepLaws.{next_in}
 use Rattle.player.specs.declared.Player.{Player}
 use Rattle.player.specs.Player.{cells_of, worked_out, stored, stepped, after_step}

@@ -1,22 +1,18 @@
 -- Arrays that are filled from the front, the rest 0.
 -- Assumes nothing.
-use Prim.Native.Nat.{ℕ, zero, suc, ◌+◌, ◌-◌, ◌*◌, ◌≤◌, ◌<◌}
-use mathlib.Core.Path.{◌≡◌, refl, sym, ap, ◌∙◌}
-use mathlib.Core.Logic.{◌≢◌, ⊎_elim}
-use mathlib.Core.Bool.{Bool, true, false}
-use mathlib.Core.List.{List, [], ◌∷◌, ◌++◌}
+use Prim.Native.Nat.{ℕ, ◌+◌, ◌-◌, ◌≤◌, ◌<◌}
+use mathlib.Core.Path.{◌≡◌, sym, ap, ◌∙◌}
+use mathlib.Core.Logic.{⊎_elim}
+use mathlib.Core.List.{List, ◌++◌}
 use native.Mathlib.Decide.{ℕ_discrete}
 use native.Mathlib.Omega.{arith}
-use lib.Dec.{T, ltb, leb→le, eqb-suc-zero}
 use lib.ListN.{length, set, replicate, take, drop, length-set, length-replicate, get_or-replicate, get_or-append}
 use lib.Seq.{ext_get_or, get_or-set_same, get_or-set_other}
 use Rattle.std.proofs.Common.{length-append}
 use Rattle.std.proofs.lemmas.List.{get_or-take, get_or-append_right, drop-replicate, length-take-le}
-use Rattle.laws.specs.Sum.{gate}
 use Rattle.laws.specs.Lists.{nth}
 use Rattle.laws.proofs.SumLaws.{lt_or_ge, gate_lt, gate_ge}
 use Rattle.laws.proofs.ListLaws.{tab_length, tab_at}
-use Rattle.player.specs.declared.Player.{Player}
 use Rattle.player.specs.Player.{padded}
 
 -- n numbers
@@ -54,9 +50,9 @@ padded_more n k g s e l = ap (λ s. set s k (g k)) e ∙ ext_get_or 0 _ _ (lengt
 pub padded_copy : (n k : ℕ) (t s : List ℕ) → k ≤ n → k ≤ length t → s ≡ take k t → s ++ drop k (replicate n 0) ≡ padded n k (nth t)
 padded_copy n k t s room long is = ext_get_or 0 _ _ (whole ∙ sym (padded_length n k (nth t)))
     (λ i b. let a : i < n = omega (arith, whole) in ⊎_elim
-        (λ l. get_or-append s _ 0 i (omega (arith, size)) ∙ ap (λ s. nth s i) is ∙ get_or-take k t i 0 l ∙ sym (padded_at n k (nth t) i a l))
-        (λ l. get_or-append_right s _ k i 0 size l ∙ ap (λ r. nth r (i - k)) (drop-replicate k n 0) ∙ get_or-replicate (n - k) (i - k) 0 0 (omega arith) ∙ sym (padded_behind n k (nth t) i a l))
-        (lt_or_ge i k))
+    (λ l. get_or-append s _ 0 i (omega (arith, size)) ∙ ap (λ s. nth s i) is ∙ get_or-take k t i 0 l ∙ sym (padded_at n k (nth t) i a l))
+    (λ l. get_or-append_right s _ k i 0 size l ∙ ap (λ r. nth r (i - k)) (drop-replicate k n 0) ∙ get_or-replicate (n - k) (i - k) 0 0 (omega arith) ∙ sym (padded_behind n k (nth t) i a l))
+    (lt_or_ge i k))
   where
     size : length s ≡ k
     size = ap length is ∙ length-take-le k t long

@@ -1,31 +1,30 @@
 -- A start: its record, its refusals, and that it answers as a step does.
 -- Assumes nothing.
-use Prim.Native.Nat.{ℕ, zero, suc, ◌+◌, ◌*◌, ◌^◌, ◌≤◌, ◌<◌}
-use mathlib.Core.Path.{◌≡◌, refl, sym, ap, ap₂, subst, ◌∙◌}
+use Prim.Native.Nat.{ℕ, zero, suc, ◌*◌, ◌^◌, ◌<◌}
+use mathlib.Core.Path.{◌≡◌, refl, sym, ap, ap₂, ◌∙◌}
 use mathlib.Core.Logic.{◌≢◌, ⊎_elim}
 use mathlib.Core.Bool.{true, false}
 use mathlib.Core.List.{List, [], ◌∷◌}
-use native.Mathlib.Nat.{mul-le-mul}
 use native.Mathlib.Omega.{arith}
 use lib.ListN.{length}
-use Rattle.std.specs.Prelude.{Option, None, Some, Result, Ok, Err}
+use Rattle.std.specs.Prelude.{Option, None, Some, Ok, Err}
 use Rattle.std.specs.Option.{is_some}
 use Rattle.laws.specs.Lists.{nth}
 use Rattle.laws.proofs.SumLaws.{lt_or_ge}
 use Rattle.tasks.specs.declared.Task.{Task}
 use Rattle.tasks.specs.declared.Slots.{Slots}
 use Rattle.tasks.specs.declared.Refusal.{Refusal}
-use Rattle.tasks.specs.Refusal.{refusal, table_length, IsSound, tested}
+use Rattle.tasks.specs.Refusal.{table_length, IsSound, tested}
 use Rattle.tasks.specs.Told.{number_of, tested_as}
 use Rattle.tasks.specs.Instance.{instance_of}
-use Rattle.tasks.proofs.SoundLaws.{SoundList, sound_list}
+use Rattle.tasks.proofs.SoundLaws.{sound_list}
 use Rattle.tasks.proofs.RefusalLaws.{some_number}
 use Rattle.tasks.proofs.AnswerLaws.{tested_sound, tested_refused}
 use Rattle.table.specs.Fault.{no_fault, checked, check}
 use Rattle.checker.specs.declared.Fault.{Fault as FaultTold}
 use Rattle.checker.specs.declared.Fault.TheVariants.{Cell, Job}
 use Rattle.checker.specs.Checks.{Checkable}
-use Rattle.checker.specs.Told.{fault_as, checked_as}
+use Rattle.checker.specs.Told.{checked_as}
 use Rattle.checker.proofs.TellLaws.{check_refused, check_short}
 use Rattle.clock.specs.Clock.{Answered}
 use Rattle.clock.proofs.ClockLaws.{tick_after}
@@ -103,6 +102,6 @@ module _ (m : ℕ) (ts : List Task) (t : List ℕ) where
       unfolding started after_start
       starts p = (
         ap₂ stepped (sym made_now) (sym same_tick) ∙ moved_answer made unspoilt 0 0 (omega arith)
-        ∙ rw (taken none) (ap (λ q. record { verdict = 0; cells = cells_of q; missed = 0 }) made_now),
+            ∙ rw (taken none) (ap (λ q. record { verdict = 0; cells = cells_of q; missed = 0 }) made_now),
         ap₂ after_step (sym made_now) (sym same_tick) ∙ moved_step made unspoilt 0 0 (omega arith) ∙ rw (taken none) made_now,
       )

@@ -85,7 +85,13 @@ fn record_of(tasks: &[Task], h: Slots, m: u8, table: &[u8], tick: u32) -> Player
 }
 
 // A start: refusals 1 to 8, 10 and 11, in that order; it answers as a step does, for slot 0.
-pub fn start(p: &mut Player, tasks: &[Task], m: u8, table: &[u8], tick: u32) -> Result<Shown, Refusal>
+pub fn start(
+    p: &mut Player,
+    tasks: &[Task],
+    m: u8,
+    table: &[u8],
+    tick: u32,
+) -> Result<Shown, Refusal>
     ensures { (answered_as result ≡ started m tasks.now table.now tick) × (p.new ≡ after_start m tasks.now table.now tick p.old) }
 {
     let h = tasks::test_list(tasks, m)?;
