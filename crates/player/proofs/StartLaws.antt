@@ -1,6 +1,6 @@
 -- A start: its record, its refusals, and that it answers as a step does.
 -- Assumes nothing.
-use Prim.Native.Nat.{ℕ, zero, suc, ◌*◌, ◌^◌, ◌<◌}
+use Prim.Native.Nat.{ℕ, zero, suc, ◌*◌, ◌^◌, ◌≤◌, ◌<◌}
 use mathlib.Core.Path.{◌≡◌, refl, sym, ap, ap₂, ◌∙◌}
 use mathlib.Core.Logic.{◌≢◌, ⊎_elim}
 use mathlib.Core.Bool.{true, false}
@@ -70,23 +70,28 @@ module _ (m : ℕ) (ts : List Task) (t : List ℕ) where
 
   -- ---- a start whose list is sound and whose table the checker looked at
   module _ (h : Slots) (x : Option FaultTold) (sound : tested_as (Ok h) ≡ tested m ts) (told : checked_as (Ok x) ≡ check m ts t) where
+    -- as it is told
     list_sound : IsSound m ts × (h.0 ≡ table_length ts)
     list_sound = tested_sound m ts (Ok h) sound h refl
 
     -- the table can be copied
     pub checkable : Checkable ts m h.0 t
     unfolding instance_of
-    checkable = record { sound = list_sound.0; slots = list_sound.1; long = rw (list_sound.1) (⊎_elim (λ l. let e = check_short m ts t list_sound.0 l in cc) (λ l. l) (lt_or_ge (length t) (table_length ts * m))) }
+    checkable = record { sound = list_sound.0; slots = list_sound.1; long = rw (list_sound.1) long }
+      where
+        long : table_length ts * m ≤ length t
+        long = ⊎_elim (λ l. let e = check_short m ts t list_sound.0 l in cc) (λ l. l) (lt_or_ge (length t) (table_length ts * m))
 
     -- it has no number, if there is no fault
     taken : false ≡ is_some x → start_refusal m ts t ≡ 0
     taken none = sym (ap check_refusal (faultless x none told))
 
-    -- a step at the same tick answers for slot 0 and leaves the record as it is
+    -- then a step at the same tick answers for slot 0 and leaves the record as it is
     module _ (none : false ≡ is_some x) (tick : ℕ) (l : tick < 2 ^ 32) where
       abbrev made : Player
       made = record_of m ts t tick
 
+      -- it is not spoilt, moved on by no slot it is itself, and no slot has passed
       unspoilt : IsUnspoilt made
       unspoilt = made_unspoilt (sound_list m ts list_sound.0) t tick
 
@@ -98,6 +103,7 @@ module _ (m : ℕ) (ts : List Task) (t : List ℕ) where
       unfolding record_of
       same_tick = omega arith
 
+      -- so it is
       pub starts : (p : Player) → (stepped made tick ≡ started m ts t tick) × (after_step made tick ≡ after_start m ts t tick p)
       unfolding started after_start
       starts p = (
