@@ -51,7 +51,7 @@ fn elapsed_of(tick: u32, last: u32) -> u32
 }
 
 impl Numbers {
-    // Whether each is in its range (RULES 7.5). H is not 0 where position is below it.
+    // Whether each is in its range (RULES 7.5).
     #[tactic(auto, unfolding(tasks::specs::Refusal::within))]
     fn in_range(self) -> bool
         ensures { result ≡ every (ranges self.h.0 self.position.0 self.age.0 self.m self.n) }

@@ -9,6 +9,7 @@ use native.Mathlib.Omega.{arith}
 use native.Mathlib.Nat.{zero-add}
 use lib.Dec.{eqb}
 use lib.ListN.{length}
+use Rattle.std.specs.Prelude.{None, Ok}
 use Rattle.laws.specs.Sum.{gate, sum}
 use Rattle.laws.specs.Lists.{nth}
 use Rattle.laws.proofs.SumLaws.{sum_ext}
@@ -21,30 +22,27 @@ use Rattle.tasks.specs.Instance.{instance_of, own_instance}
 use Rattle.tasks.proofs.SoundLaws.{SoundList, sound_list}
 use Rattle.table.specs.Table.{cells, Valid}
 use Rattle.table.specs.Fault.{no_fault, in_cell, in_job, Checked, refused, checked, check}
-use Rattle.checker.specs.declared.Verdict.TheVariants.{Valid as IsValid}
-use Rattle.checker.specs.Checks.{checked_as}
 use Rattle.checker.proofs.Calls.{Checks}
 use Rattle.checker.proofs.Demand2.{tells}
-use Rattle.clock.specs.declared.Shown.{Shown}
-use Rattle.clock.specs.Clock.{elapsed_at, time_after}
+use Rattle.clock.specs.Clock.{Answered, elapsed_at, time_after}
 use Rattle.clock.proofs.ClockLaws.{tick_after, tick_after_is}
 use Rattle.player.specs.declared.Player.{Player}
 use Rattle.player.specs.Player.{cells_of, stepped, after_step, check_refusal, start_refusal, record_of, first_shown, started, after_start}
 use Rattle.player.specs.Played.{shown_as, shown_at, units_in}
 use Rattle.player.proofs.PlayLaws.{plays_work, plays_open, plays_rated, plays_once}
 use Rattle.player.proofs.RecordLaws.{IsUnspoilt, moved, moved_none, moved_step, moved_answer, made_unspoilt, made_cells}
-use Rattle.player.proofs.Calls.{Starts, Step}
+use Rattle.player.proofs.Calls.{Start, Step}
 
 -- ---- statements
 -- a run: a start for the tasks ts over the record p at the first tick, and n calls of `step`, each at the next tick on the record that the call before it left
-pub record Run (ts : List Task) (m : ℕ) (t : List ℕ) (p : Player) (tick : ℕ → ℕ) (n : ℕ) (shown : ℕ → Shown) (left : ℕ → Player) : Type 0 where
+pub record Run (ts : List Task) (m : ℕ) (t : List ℕ) (p : Player) (tick : ℕ → ℕ) (n : ℕ) (shown : ℕ → Answered) (left : ℕ → Player) : Type 0 where
   -- a tick has 32 bits
   pub ticks : (s : ℕ) → s ≤ n → tick s < 2 ^ 32
-  pub starts : Starts p ts m t (tick 0) (shown 0) (left 0)
+  pub starts : Start p ts m t (tick 0) (shown 0) (left 0)
   pub steps : (s : ℕ) → s < n → Step (left s) (tick (suc s)) (shown (suc s)) (left (suc s))
 
 -- a table played with any elapsed numbers
-pub record Keeps (m : ℕ) (ts : List Task) (t : List ℕ) (tick : ℕ → ℕ) (n : ℕ) (shown : ℕ → Shown) (left : ℕ → Player) : Type 0 where
+pub record Keeps (m : ℕ) (ts : List Task) (t : List ℕ) (tick : ℕ → ℕ) (n : ℕ) (shown : ℕ → Answered) (left : ℕ → Player) : Type 0 where
   -- the start and each step are accepted
   pub accepted : (s : ℕ) → s ≤ n → (shown s).verdict ≡ 0
   -- the position is the sum of the elapsed numbers modulo H
@@ -59,7 +57,7 @@ pub record Keeps (m : ℕ) (ts : List Task) (t : List ℕ) (tick : ℕ → ℕ) 
   pub misses : (s : ℕ) → s < n → (shown (suc s)).missed ≡ elapsed_at tick s - 1
 
 -- a table played for n steps with every elapsed number 1
-pub record Plays (m : ℕ) (ts : List Task) (t : List ℕ) (n : ℕ) (shown : ℕ → Shown) : Type 0 where
+pub record Plays (m : ℕ) (ts : List Task) (t : List ℕ) (n : ℕ) (shown : ℕ → Answered) : Type 0 where
   -- the start and each step are accepted
   pub accepted : (s : ℕ) → s ≤ n → (shown s).verdict ≡ 0
   -- no slot is missed
@@ -78,14 +76,13 @@ pub record Plays (m : ℕ) (ts : List Task) (t : List ℕ) (n : ℕ) (shown : �
   pub once : (i s j j' : ℕ) → i ≢ 0 → i ≤ length ts → s ≤ n → j < 4 → j' < 4 → j ≢ j' → nth (shown s).cells j ≡ i → nth (shown s).cells j' ≡ i → ⊥
 
 -- ---- proofs
-module _ (ts : List Task) (m : ℕ) (t : List ℕ) (p : Player) (tick : ℕ → ℕ) (n : ℕ) (shown : ℕ → Shown) (left : ℕ → Player)
-    (valid : Checks ts m t IsValid) (run : Run ts m t p tick n shown left) where
+module _ (ts : List Task) (m : ℕ) (t : List ℕ) (p : Player) (tick : ℕ → ℕ) (n : ℕ) (shown : ℕ → Answered) (left : ℕ → Player)
+    (valid : Checks ts m t (Ok None)) (run : Run ts m t p tick n shown left) where
   abbrev made : Player
   made = record_of m ts t (tick 0)
 
   -- the checker finds no fault
   faultless : check m ts t ≡ checked no_fault
-  unfolding checked_as
   faultless = sym valid
 
   -- so the list is sound, and the table is long enough and meets C1 to C4
@@ -216,12 +213,11 @@ first_verdict : (p : Player) (r : ℕ) → (first_shown p r).verdict ≡ r
 first_verdict p zero = refl
 first_verdict p (suc r) = refl
 
-module _ (ts : List Task) (m : ℕ) (t : List ℕ) (p q : Player) (τ : ℕ) (r : Shown) (call : Starts p ts m t τ r q) where
+module _ (ts : List Task) (m : ℕ) (t : List ℕ) (p q : Player) (τ : ℕ) (r : Answered) (call : Start p ts m t τ r q) where
   pub start_verdict : r.verdict ≡ start_refusal m ts t
   unfolding started
   start_verdict = ap (λ a. a.verdict) call.0 ∙ first_verdict _ _
 
   -- so a start is accepted exactly if the checker finds the table valid
-  pub accepts : (r.verdict ≡ 0) ↔ Checks ts m t IsValid
-  unfolding checked_as
+  pub accepts : (r.verdict ≡ 0) ↔ Checks ts m t (Ok None)
   accepts = (λ z. sym (none_wrong (check m ts t) (some_refused m ts t) (sym start_verdict ∙ z)), λ x. start_verdict ∙ ap check_refusal (sym x))

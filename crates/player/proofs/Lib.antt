@@ -1,5 +1,5 @@
 mod ApartLaws
-mod Element
+mod ArrayLaws
 mod StartLaws
 pub mod PlayLaws
 pub mod RecordLaws

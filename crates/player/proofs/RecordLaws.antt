@@ -21,7 +21,7 @@ use Rattle.clock.proofs.ClockLaws.{tick_after, moved_on}
 use Rattle.player.specs.declared.Player.{Player}
 use Rattle.player.specs.Player.{cells_of, stepped, after_step, record_of}
 use Rattle.player.specs.Played.{shown_as, shown_at}
-use Rattle.player.proofs.StartLaws.{padded_at}
+use Rattle.player.proofs.ArrayLaws.{padded_at}
 use Rattle.player.proofs.PlayLaws.{cell_lt}
 
 -- ---- the record moved on

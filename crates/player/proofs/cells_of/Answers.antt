@@ -1,14 +1,7 @@
--- `player::cells_of` meets its contract: the first c cells are copied, the rest are 0.
+-- `player::cells_of` meets its contract: the first cells are copied, the rest are 0.
 -- Assumes nothing.
-use native.Mathlib.Omega.{arith}
-use Rattle.player.proofs.StartLaws.{filling_none, filling_more, filling_all}
+use Rattle.player.proofs.ArrayLaws.{padded_copy}
 use Rattle.player.proofs.cells_of.Goals as goal
 
-pub loop-c-init : goal.loop-c-init
-loop-c-init c = filling_none c.no_cells-cells.ensures
-
-pub loop-c-preserved : goal.loop-c-preserved
-loop-c-preserved c = filling_more c.loop-c.invariant (omega arith) (omega arith)
-
 pub returns : goal.returns
-returns c = filling_all c.loop-c.invariant (omega arith)
+returns c = padded_copy 4096 _ _ _ c.requires.0 c.requires.1 c.copy_from_slice.ensures.after

@@ -1,12 +1,8 @@
--- `player::offsets_of` meets its contract: the first k offsets are copied, the rest are 0.
+-- `player::offsets_of` meets its contract. The loop's invariant: the offsets of the tasks passed are stored, the rest are 0.
 -- Assumes nothing.
-use Prim.Native.Nat.{◌-◌}
-use Rattle.laws.specs.Lists.{nth}
-use Rattle.player.proofs.StartLaws.{Filling}
+use mathlib.Core.Path.{◌≡◌}
+use Rattle.player.specs.Player.{padded, offset_at}
 use Rattle.player.proofs.offsets_of.Given as goal
 
 abbrev pub invariant-loop-k : goal.invariant-loop-k
-invariant-loop-k l = Filling 16 l.n (nth l.list.offset) l.offsets l.k
-
-abbrev pub decreases-loop-k : goal.decreases-loop-k
-decreases-loop-k l = l.n - l.k
+invariant-loop-k l = l.offsets ≡ padded 16 l.k (offset_at l.tasks)
