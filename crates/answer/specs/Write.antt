@@ -19,15 +19,22 @@ unfoldable pub slot_frame : ℕ → List ℕ → ℕ → List ℕ
 slot_frame m table t =
     6 ∷ t / 256 ∷ t % 256 ∷ cell_at m table t 0 ∷ cell_at m table t 1 ∷ cell_at m table t 2 ∷ cell_at m table t 3 ∷ []
 
+-- the same of the cells in a row, 0 beyond its end
+unfoldable pub row_frame : ℕ → List ℕ → List ℕ
+row_frame t row = 6 ∷ t / 256 ∷ t % 256 ∷ nth row 0 ∷ nth row 1 ∷ nth row 2 ∷ nth row 3 ∷ []
+
 -- 8.12: the 06 lines of slots 0 to H - 1
 unfoldable pub slot_lines : ℕ → ℕ → List ℕ → List ℕ
 slot_lines zero m table = []
 slot_lines (suc H) m table = slot_lines H m table ++ line_of (slot_frame m table H)
 
+-- 8.12: 05, so many 06 lines, and 07
+abbrev pub answer_lines : ℕ → ℕ → ℕ → ℕ → List ℕ → List ℕ
+answer_lines verdict tries shown m table = line_of (verdict_frame verdict tries) ++ slot_lines shown m table ++ line_of (7 ∷ [])
+
 -- 8.12: 05, the 06 lines for verdict 0, and 07
 unfoldable pub write_answer : ℕ → ℕ → ℕ → ℕ → List ℕ → List ℕ
-write_answer verdict tries H m table =
-    line_of (verdict_frame verdict tries) ++ slot_lines (gate (eqb verdict 0) H) m table ++ line_of (7 ∷ [])
+write_answer verdict tries H m table = answer_lines verdict tries (gate (eqb verdict 0) H) m table
 
 -- the table has the cells, and the longest answer has room: 05 in 13 bytes, 1024 slots of 15 bytes, 07 in 3 bytes
 unfoldable pub can_write : ℕ → ℕ → ℕ → ℕ → Bool

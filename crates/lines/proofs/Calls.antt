@@ -13,10 +13,10 @@ use Rattle.tasks.proofs.RefusalLaws.{some_number, refusal_from, refusal_back}
 use Rattle.lines.specs.declared.Kind.{Kind}
 use Rattle.lines.specs.declared.Kind.TheVariants.{Cores, Task, Rates, Limit, Verdict, Slot, End}
 use Rattle.lines.specs.declared.Frame.{Frame}
-use Rattle.lines.specs.Frame.{code_of, sort_of, IsFrame}
+use Rattle.lines.specs.Frame.{sort_of}
 use Rattle.lines.specs.Lines.{bytes_of, LineEnd, line_in, line_of}
 use Rattle.lines.specs.Refusal.{is_kind, line_refusal}
-use Rattle.lines.specs.Told.{Decodes}
+use Rattle.lines.specs.Told.{code_of, Decodes, IsFrame}
 use Rattle.lines.proofs.FrameLaws.{is_known}
 use Rattle.lines.specs.contracts.put_frame as put_frame_call
 use Rattle.lines.specs.contracts.read_line as read_line_call

@@ -5,8 +5,9 @@ use borrow.Author.Tests.{le-leb, lt-leb, ne_eqb}
 use Rattle.tasks.specs.Refusal.{within}
 use Rattle.lines.specs.declared.Kind.{Kind}
 use Rattle.lines.specs.declared.Kind.TheVariants.{Cores, Task, Rates, Limit, Verdict, Slot, End}
-use Rattle.lines.specs.Frame.{sort_of, code_of}
+use Rattle.lines.specs.Frame.{sort_of}
 use Rattle.lines.specs.Refusal.{is_kind}
+use Rattle.lines.specs.Told.{code_of}
 
 module _ (a b x : ℕ) where
   -- a number in a range

@@ -1,11 +1,8 @@
 -- Frames: a kind, its fixed length and its bytes, and numbers high byte first.
 -- Assumes nothing.
-use Rattle.std.specs.Prelude.{ℕ, ◌+◌, ◌*◌, ◌≡◌, Bool, true, false, ◌||◌, List, [], ◌∷◌, eqb}
+use Rattle.std.specs.Prelude.{ℕ, ◌+◌, ◌*◌, Bool, true, false, ◌||◌, List, [], ◌∷◌, eqb}
 use Rattle.laws.specs.Lists.{nth, tab}
 use Rattle.tasks.specs.Refusal.{within}
-use Rattle.lines.specs.declared.Kind.{Kind}
-use Rattle.lines.specs.declared.Kind.TheVariants.{Cores, Task, Rates, Limit, Verdict, Slot, End}
-use Rattle.lines.specs.declared.Frame.{Frame}
 
 -- 8.2: 01 cores (2); 02 task (10); 03 rates (6); 04 engine and limit (6); 05 verdict and tries (6); 06 slot (7); 07 end (1)
 abbrev pub lengths : List ℕ
@@ -41,18 +38,3 @@ four f k = two f k * 65536 + two f (k + 2)
 -- a frame's bytes, filled up with 0
 unfoldable pub ten_bytes : List ℕ → List ℕ
 ten_bytes f = tab 10 (nth f)
-
--- ---- what the code holds
--- 8.2: the first byte of a kind's lines
-abbrev pub code_of : Kind → ℕ
-code_of Cores = 1
-code_of Task = 2
-code_of Rates = 3
-code_of Limit = 4
-code_of Verdict = 5
-code_of Slot = 6
-code_of End = 7
-
--- a frame of these bytes, which it has filled up with 0
-abbrev pub IsFrame : Frame → List ℕ → Type 0
-IsFrame frame f = (code_of frame.kind ≡ nth f 0) × (frame.bytes ≡ ten_bytes f)

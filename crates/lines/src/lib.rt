@@ -5,9 +5,10 @@ ghost use Rattle.std.specs.Prelude.{◌≡◌, ◌&&◌, ◌+◌, ◌*◌, ◌�
 ghost use Rattle.std.specs.Bool.{then_some};
 ghost use Rattle.laws.specs.Lists.{over};
 ghost use Rattle.tasks.specs.Told.{refusal_of};
-ghost use Rattle.lines.specs.Frame.{code_of, length_of_kind, sort_of, ten_bytes, IsFrame};
+ghost use Rattle.lines.specs.Frame.{length_of_kind, sort_of, ten_bytes};
 ghost use Rattle.lines.specs.Lines.{is_digit, digit_of, pairs, bytes_of, line_in, hex_of, line_of};
 ghost use Rattle.lines.specs.Refusal.{in_problem, frame_refusal, line_refusal};
+ghost use Rattle.lines.specs.Told.{code_of, IsFrame};
 
 use tasks::Refusal;
 
@@ -24,7 +25,7 @@ pub enum Kind {
 }
 
 impl From<Kind> for u8 {
-    ghost use Rattle.lines.specs.Frame.{code_of};
+    ghost use Rattle.lines.specs.Told.{code_of};
     ghost use Rattle.std.specs.Prelude.{◌≡◌};
 
     ghost from_gives = { λ kind code. code ≡ code_of kind };
