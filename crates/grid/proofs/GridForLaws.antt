@@ -27,6 +27,7 @@ use Rattle.table.proofs.ShareLaws.{share_none, share_own}
 use Rattle.rules.specs.Rules.{tests, permitted, settled, all_settled, even_rates}
 use Rattle.sets.specs.Sets.{has, of_core, without}
 use Rattle.sets.proofs.SetLaws.{of_core_has, of_core_alone, of_core_lt, without_has, common_none}
+use Rattle.grid.specs.declared.Grid.{Grid}
 use Rattle.grid.specs.Grid.{entry_on, ends_on, rate_on, evens_on, counter_on, sets_on, bars_idle, settled_on, all_settled_on}
 use Rattle.grid.specs.GridFor.{Small, counter_of, closed_counter, entry_of, is_quick, GridFor, Lefts}
 use Rattle.grid.proofs.ReadLaws.{sets_has, sets_none}
@@ -104,7 +105,7 @@ sets_same {P} {slot} {c = c} {f} {g} h holds = record {
     free_same : (i : ℕ) → free P c f i ≡ free P c g i
     free_same i = all_same (core_of P c) _ _ (λ k l. ap (λ x. not (eqb x i)) (h (beside P c k) (beside_before P c k l)))
 
-module _ {P : Instance} {e : ℕ} {grid : List ℕ} (small : Small P) (ready : GridFor P e grid) where
+module _ {P : Instance} {e : ℕ} {grid : Grid} (small : Small P) (ready : GridFor P e grid) where
   module _ {slot v : ℕ} (ls : slot < P.slots) (lv : v < P.tasks) where
     -- where the task is open, the counter is its job's
     pub counter_open : T (P.opens (suc v) slot) → counter_on grid slot v ≡ counter_of (suc v) (P.job (suc v) slot)

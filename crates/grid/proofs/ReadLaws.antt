@@ -7,8 +7,10 @@ use native.Mathlib.Decide.{ℕ_discrete}
 use native.Mathlib.Nat.{add-zero, zero-add, lt_of_lt_of_le, pow-le-pow_right}
 use mathlib.Core.Path.{◌≡◌, refl, sym, ap, ap₂, ◌∙◌}
 use mathlib.Core.Logic.{◌≢◌, ⊎_elim}
-use mathlib.Core.Bool.{Bool, true, false, not, cond, ◌&&◌, true≢false, and-false}
+use mathlib.Core.Bool.{Bool, true, false, not, cond, ◌&&◌, true≢false}
 use mathlib.Core.List.{List}
+use Rattle.std.specs.Prelude.{Option, None, Some}
+use Rattle.std.proofs.lemmas.Option.{none-some, same_Some}
 use lib.Dec.{leb, ltb, eqb}
 use lib.ListN.{set}
 use lib.Seq.{get_or-set_other}
@@ -20,11 +22,12 @@ use Rattle.laws.specs.Tests.{imp}
 use Rattle.laws.proofs.SumLaws.{gate_lt, gate_le, lt_or_ge}
 use Rattle.laws.proofs.TestLaws.{all_false, all_true}
 use Rattle.sets.specs.Sets.{has, pushed, common, on_cores}
-use Rattle.sets.proofs.SetLaws.{none_has, common_has, over_first, over_next, pushed_first, pushed_next, pushed_lt, on_cores_none, on_cores_pushed, on_cores_first}
-use Rattle.grid.specs.Grid.{most, entry_on, ends_on, twin_on, tasks_on, cores_on, slots_on, counter_on, sets_at, rated_on, left_from, sets_on, twin_rank_on, floor_on, settled_on, all_settled_on, none_due, due_from, first_due_on, due_on, starves, OnGrid}
+use Rattle.sets.proofs.SetLaws.{none_has, common_has, pushed_first, pushed_next, pushed_lt, on_cores_none, on_cores_pushed, on_cores_first}
+use Rattle.grid.specs.declared.Grid.{Grid}
+use Rattle.grid.specs.Grid.{most, entry_on, ends_on, twin_on, tasks_on, cores_on, slots_on, counter_on, rated_on, left_from, sets_on, twin_rank_on, settled_on, all_settled_on, due_from, first_due_on, due_on, starves, OnGrid}
 
 -- ---- another slot of the grid
-pub at_slot : {grid : List ℕ} {slot t : ℕ} → OnGrid grid slot → t < slots_on grid → OnGrid grid t
+pub at_slot : {grid : Grid} {slot t : ℕ} → OnGrid grid slot → t < slots_on grid → OnGrid grid t
 at_slot on l = record { tasks = on.tasks; cores = on.cores; slots = on.slots; counters = on.counters; slot_in = l }
 
 -- ---- the highest rank
@@ -38,13 +41,8 @@ pub most_none : (g : ℕ → ℕ) → 0 ≡ most 0 g
 unfolding most
 most_none g = refl
 
--- all cores
-pub floor_is : (grid t : List ℕ) (first core j m : ℕ) → j ≡ core → m ≡ most j (twin_rank_on grid t first core) → m ≡ floor_on grid t first core
-unfolding floor_on
-floor_is grid t first core j m e h = h ∙ ap (λ n. most n (twin_rank_on grid t first core)) e
-
 -- ---- a slot whose jobs are settled
-module _ (grid l : List ℕ) (slot : ℕ) where
+module _ (grid : Grid) (l : List ℕ) (slot : ℕ) where
   all_settled_not : (v : ℕ) → v < tasks_on grid → ends_on grid slot ≤ v → settled_on grid l slot v ≡ false → all_settled_on grid l slot ≡ false
   unfolding all_settled_on
   all_settled_not v h ends e = all_false (tasks_on grid) _ v h (rw (le-leb (ends_on grid slot) v ends) e)
@@ -58,7 +56,7 @@ module _ (grid l : List ℕ) (slot : ℕ) where
       from false e h = refl
 
 -- ---- one job at the slot's end
-module _ (grid l : List ℕ) (slot v : ℕ) where
+module _ (grid : Grid) (l : List ℕ) (slot v : ℕ) where
   -- it does not end here
   pub settled_later : entry_on grid slot v % 2 ≡ 0 → true ≡ settled_on grid l slot v
   unfolding settled_on
@@ -70,21 +68,21 @@ module _ (grid l : List ℕ) (slot v : ℕ) where
   settled_end k x e = rw (ne_eqb (entry_on grid slot v % 2) 0 x, e)
 
 -- ---- the rank on an earlier core
-module _ (grid t : List ℕ) (first core j : ℕ) where
+module _ (grid : Grid) (t : List ℕ) (first core j : ℕ) where
   -- that is no twin
-  pub twin_none : twin_on grid core j ≡ 0 → 0 ≡ twin_rank_on grid t first core j
+  pub twin_none : twin_on grid core j ≡ false → 0 ≡ twin_rank_on grid t first core j
   unfolding twin_rank_on gate
-  twin_none e = rw (eq-eqb (twin_on grid core j) 0 e)
+  twin_none e = rw e
 
   -- that is an idle twin
-  pub twin_idle : (n : ℕ) → twin_on grid core j ≢ 0 → nth t (first + j) ≡ 0 → n ≡ tasks_on grid → n + 1 ≡ twin_rank_on grid t first core j
+  pub twin_idle : (n : ℕ) → twin_on grid core j ≡ true → nth t (first + j) ≡ 0 → n ≡ tasks_on grid → n + 1 ≡ twin_rank_on grid t first core j
   unfolding twin_rank_on gate
-  twin_idle n x z e = rw (ne_eqb (twin_on grid core j) 0 x, z, add-one) (ap suc e)
+  twin_idle n x z e = rw (x, z, add-one) (ap suc e)
 
   -- that is a twin with a task
-  pub twin_task : (r : ℕ) → twin_on grid core j ≢ 0 → nth t (first + j) ≢ 0 → r ≡ nth t (first + j) → r ≡ twin_rank_on grid t first core j
+  pub twin_task : (r : ℕ) → twin_on grid core j ≡ true → nth t (first + j) ≢ 0 → r ≡ nth t (first + j) → r ≡ twin_rank_on grid t first core j
   unfolding twin_rank_on gate
-  twin_task r x z e = rw (ne_eqb (twin_on grid core j) 0 x) (e ∙ rank_same (nth t (first + j)) z)
+  twin_task r x z e = rw x (e ∙ rank_same (nth t (first + j)) z)
     where
       rank_same : (y : ℕ) → y ≢ 0 → y ≡ rank_of (tasks_on grid) y
       rank_same zero h = absurd (h refl)
@@ -97,35 +95,8 @@ unfolding gate
 some_is zero l = (refl, omega arith)
 some_is (suc w) l = (omega (arith, gate_lt 0 (suc w) 1 (omega arith)), omega arith)
 
--- ---- the sets in four places
-module _ (grid : List ℕ) (x : ℕ) where
-  -- each place above those before it
-  sets_over : sets_at grid x ≡ ((nth grid (x + 3) * 65536 + nth grid (x + 2)) * 65536 + nth grid (x + 1)) * 65536 + nth grid (x + 0)
-  unfolding sets_at
-  sets_over = omega (arith, ap (nth grid) (add-zero x))
-
-  -- task v of place x + i
-  pub sets_at_lem : (i v c : ℕ) → i < 4 → v < 4 → c < 4 → ((k : ℕ) → k < 4 → nth grid (x + k) < 65536) → has (sets_at grid x) (4 * i + v) c ≡ has (nth grid (x + i)) v c
-  sets_at_lem i v c li lv lc few = ap (λ (s : ℕ). has s (4 * i + v) c) sets_over ∙ at i li
-    where
-      w : ℕ → ℕ
-      w k = nth grid (x + k)
-
-      all_four : ℕ
-      all_four = ((w 3 * 65536 + w 2) * 65536 + w 1) * 65536 + w 0
-
-      above : (y : ℕ) → has all_four (4 + y) c ≡ has ((w 3 * 65536 + w 2) * 65536 + w 1) y c
-      above y = over_next 4 _ (w 0) y c (few 0 (omega arith))
-
-      at : (i : ℕ) → i < 4 → has all_four (4 * i + v) c ≡ has (w i) v c
-      at zero l = ap (λ (y : ℕ). has all_four y c) (zero-add v) ∙ over_first 4 _ (w 0) v c lv lc
-      at (suc zero) l = above v ∙ over_first 4 _ (w 1) v c lv lc
-      at (suc (suc zero)) l = ap (λ (y : ℕ). has all_four y c) (omega arith) ∙ above (4 + v) ∙ over_next 4 _ (w 1) v c (few 1 (omega arith)) ∙ over_first 4 (w 3) (w 2) v c lv lc
-      at (suc (suc (suc zero))) l = ap (λ (y : ℕ). has all_four y c) (omega arith) ∙ above (4 + (4 + v)) ∙ over_next 4 _ (w 1) (4 + v) c (few 1 (omega arith)) ∙ over_next 4 (w 3) (w 2) v c (few 2 (omega arith))
-      at (suc (suc (suc (suc i)))) l = absurd (omega arith)
-
 -- ---- the sets of a slot
-module _ (grid l : List ℕ) (slot : ℕ) where
+module _ (grid : Grid) (l : List ℕ) (slot : ℕ) where
   -- no task yet
   pub left_none_yet : (n : ℕ) → n ≡ tasks_on grid → 0 ≡ left_from grid l slot (tasks_on grid - n) n
   unfolding left_from
@@ -200,12 +171,7 @@ module _ (grid l : List ℕ) (slot : ℕ) where
   sets_none v c h = common_has _ (rated_on grid) v c ∙ ap (λ b. b && has (rated_on grid) v c) (left_none (tasks_on grid) 0 v c h)
 
 -- ---- a job that is due
--- the look begins with the slot's mark
-pub due_starts : (grid l : List ℕ) (slot n v : ℕ) → n ≡ tasks_on grid → v ≡ ends_on grid slot → first_due_on grid l slot ≡ due_from grid l slot (n - v) v
-unfolding first_due_on
-due_starts grid l slot n v en ev = rw (en, ev)
-
-module _ (grid l : List ℕ) (slot n v : ℕ) where
+module _ (grid : Grid) (l : List ℕ) (slot n v : ℕ) where
   -- the job of task v is settled: none of it is due
   pub due_later : v < n → {b : Bool} → b ≡ settled_on grid l slot v → b ≡ true → due_from grid l slot (n - v) v ≡ due_from grid l slot (n - (v + 1)) (v + 1)
   unfolding due_from
@@ -214,72 +180,72 @@ module _ (grid l : List ℕ) (slot n v : ℕ) where
       ap (λ j. due_from grid l slot j v) more ∙ rw (sym e ∙ f) (ap (due_from grid l slot (n - (v + 1))) (sym (add-one v)))
 
   -- it is not: it is due
-  pub due_here : v < n → {b : Bool} → b ≡ settled_on grid l slot v → b ≡ false → due_from grid l slot (n - v) v ≡ counter_on grid slot v
+  pub due_here : v < n → {b : Bool} → b ≡ settled_on grid l slot v → b ≡ false → due_from grid l slot (n - v) v ≡ Some (counter_on grid slot v)
   unfolding due_from
   due_here h e f =
       let more : n - v ≡ suc (n - (v + 1)) = omega arith in
       ap (λ j. due_from grid l slot j v) more ∙ rw (sym e ∙ f)
 
   -- there are no more tasks
-  pub due_over : n ≤ v → due_from grid l slot (n - v) v ≡ none_due
+  pub due_over : n ≤ v → due_from grid l slot (n - v) v ≡ None
   unfolding due_from
   due_over h = let z : n - v ≡ 0 = omega arith in ap (λ j. due_from grid l slot j v) z
 
 -- whose it is
-record DueJob (grid l : List ℕ) (slot due : ℕ) : Type 0 where
+record DueJob (grid : Grid) (l : List ℕ) (slot due : ℕ) : Type 0 where
   task : ℕ
   task_in : task < tasks_on grid
   from_mark : ends_on grid slot ≤ task
   counter_is : counter_on grid slot task ≡ due
   unsettled : settled_on grid l slot task ≡ false
 
-module _ (grid l : List ℕ) (slot : ℕ) where
-  due_from_lem : (j v : ℕ) → j ≤ tasks_on grid - v → ends_on grid slot ≤ v → due_from grid l slot j v ≢ none_due → DueJob grid l slot (due_from grid l slot j v)
+module _ (grid : Grid) (l : List ℕ) (slot : ℕ) where
+  due_from_lem : (j v d : ℕ) → j ≤ tasks_on grid - v → ends_on grid slot ≤ v → due_from grid l slot j v ≡ Some d → DueJob grid l slot d
   unfolding due_from
-  due_from_lem zero v lj lv x = absurd (x refl)
-  due_from_lem (suc j) v lj lv x = go (settled_on grid l slot v) refl x (due_from_lem j (suc v) (omega arith) (omega arith))
+  due_from_lem zero v d lj lv x = absurd (none-some d x)
+  due_from_lem (suc j) v d lj lv x = go (settled_on grid l slot v) refl x (due_from_lem j (suc v) d (omega arith) (omega arith))
     where
-      go : (b : Bool) → settled_on grid l slot v ≡ b → cond b (due_from grid l slot j (suc v)) (counter_on grid slot v) ≢ none_due
-          → (due_from grid l slot j (suc v) ≢ none_due → DueJob grid l slot (due_from grid l slot j (suc v)))
-          → DueJob grid l slot (cond b (due_from grid l slot j (suc v)) (counter_on grid slot v))
+      go : (b : Bool) → settled_on grid l slot v ≡ b → cond b (due_from grid l slot j (suc v)) (Some (counter_on grid slot v)) ≡ Some d
+          → (due_from grid l slot j (suc v) ≡ Some d → DueJob grid l slot d)
+          → DueJob grid l slot d
       go true e y later = later y
-      go false e y later = record { task = v; task_in = omega arith; from_mark = lv; counter_is = refl; unsettled = e }
+      go false e y later = record { task = v; task_in = omega arith; from_mark = lv; counter_is = same_Some _ _ y; unsettled = e }
 
-  first_due : first_due_on grid l slot ≢ none_due → DueJob grid l slot (first_due_on grid l slot)
+  first_due : (d : ℕ) → first_due_on grid l slot ≡ Some d → DueJob grid l slot d
   unfolding first_due_on
-  first_due x = due_from_lem (tasks_on grid - ends_on grid slot) (ends_on grid slot) (omega arith) (omega arith) x
+  first_due d x = due_from_lem (tasks_on grid - ends_on grid slot) (ends_on grid slot) d (omega arith) (omega arith) x
 
   -- none is due: each is settled
-  due_none : (j v w : ℕ) → j ≤ tasks_on grid - v → OnGrid grid slot → due_from grid l slot j v ≡ none_due → v ≤ w → w < v + j → settled_on grid l slot w ≡ true
+  due_none : (j v w : ℕ) → due_from grid l slot j v ≡ None → v ≤ w → w < v + j → settled_on grid l slot w ≡ true
   unfolding due_from
-  due_none zero v w lj fits e lo hi = absurd (omega arith)
-  due_none (suc j) v w lj fits e lo hi = go (settled_on grid l slot v) refl e (λ z after. due_none j (suc v) w (omega arith) fits z after (omega arith))
+  due_none zero v w e lo hi = absurd (omega arith)
+  due_none (suc j) v w e lo hi = go (settled_on grid l slot v) refl e (λ z after. due_none j (suc v) w z after (omega arith))
     where
-      go : (b : Bool) → settled_on grid l slot v ≡ b → cond b (due_from grid l slot j (suc v)) (counter_on grid slot v) ≡ none_due
-          → (due_from grid l slot j (suc v) ≡ none_due → suc v ≤ w → settled_on grid l slot w ≡ true) → settled_on grid l slot w ≡ true
+      go : (b : Bool) → settled_on grid l slot v ≡ b → cond b (due_from grid l slot j (suc v)) (Some (counter_on grid slot v)) ≡ None
+          → (due_from grid l slot j (suc v) ≡ None → suc v ≤ w → settled_on grid l slot w ≡ true) → settled_on grid l slot w ≡ true
       go true s z later = elim (ℕ_discrete v w) [ yes q ↦ ap (settled_on grid l slot) (sym q) ∙ s | no y ↦ later z (omega arith) ]
-      go false s z later = absurd (omega (arith, fits.counters slot v fits.slot_in (omega arith)))
+      go false s z later = absurd (none-some _ (sym z))
 
   -- a job that is due starves the slot
-  pub due_starves : first_due_on grid l slot ≢ none_due → all_settled_on grid l slot ≡ false
-  due_starves x = let d = first_due x in all_settled_not grid l slot d.task d.task_in d.from_mark d.unsettled
+  pub due_starves : (d : ℕ) → first_due_on grid l slot ≡ Some d → all_settled_on grid l slot ≡ false
+  due_starves d x = let j = first_due d x in all_settled_not grid l slot j.task j.task_in j.from_mark j.unsettled
 
   -- and so it does after another got work
-  pub due_still : (k w : ℕ) → first_due_on grid l slot ≢ none_due → first_due_on grid l slot ≢ k → all_settled_on grid (set l k w) slot ≡ false
+  pub due_still : (d k w : ℕ) → first_due_on grid l slot ≡ Some d → d ≢ k → all_settled_on grid (set l k w) slot ≡ false
   unfolding settled_on
-  due_still k w x y = let d = first_due x in
-      all_settled_not grid (set l k w) slot d.task d.task_in d.from_mark
-      (ap (λ n. imp (not (eqb (entry_on grid slot d.task % 2) 0)) (eqb n 0)) (get_or-set_other l k (counter_on grid slot d.task) w 0 (λ q. y (sym d.counter_is ∙ q))) ∙ d.unsettled)
+  due_still d k w x y = let j = first_due d x in
+      all_settled_not grid (set l k w) slot j.task j.task_in j.from_mark
+      (ap (λ n. imp (not (eqb (entry_on grid slot j.task % 2) 0)) (eqb n 0)) (get_or-set_other l k (counter_on grid slot j.task) w 0 (λ q. y (sym j.counter_is ∙ q))) ∙ j.unsettled)
 
   -- else no job is starved
-  pub none_starved : OnGrid grid slot → first_due_on grid l slot ≡ none_due → all_settled_on grid l slot ≡ true
+  pub none_starved : first_due_on grid l slot ≡ None → all_settled_on grid l slot ≡ true
   unfolding first_due_on
-  none_starved fits e = all_settled_yes grid l slot (λ v lv from. due_none (tasks_on grid - ends_on grid slot) (ends_on grid slot) v (omega arith) fits e from (omega arith))
+  none_starved e = all_settled_yes grid l slot (λ v lv from. due_none (tasks_on grid - ends_on grid slot) (ends_on grid slot) v e from (omega arith))
 
 -- on the slot's last core
-module _ (grid l : List ℕ) (slot core : ℕ) where
+module _ (grid : Grid) (l : List ℕ) (slot core : ℕ) where
   -- it is not the last
-  pub due_yet : core + 1 < cores_on grid → none_due ≡ due_on grid l slot core
+  pub due_yet : core + 1 < cores_on grid → None ≡ due_on grid l slot core
   unfolding due_on
   due_yet h = rw (lt-ltb (core + 1) (cores_on grid) h)
 
@@ -289,20 +255,12 @@ module _ (grid l : List ℕ) (slot core : ℕ) where
   due_last h = rw (le-ltb (core + 1) (cores_on grid) h)
 
   -- a job is due only there
-  pub due_only_last : due_on grid l slot core ≢ none_due → (cores_on grid ≤ core + 1) × (due_on grid l slot core ≡ first_due_on grid l slot)
-  due_only_last x = ⊎_elim (λ h. absurd (x (sym (due_yet h)))) (λ h. (h, sym (due_last h))) (lt_or_ge (core + 1) (cores_on grid))
+  pub due_only_last : (d : ℕ) → due_on grid l slot core ≡ Some d → (cores_on grid ≤ core + 1) × (first_due_on grid l slot ≡ Some d)
+  due_only_last d x = ⊎_elim (λ h. absurd (none-some d (due_yet h ∙ x))) (λ h. (h, due_last h ∙ x)) (lt_or_ge (core + 1) (cores_on grid))
 
 -- ---- a job that is due, and another's counter
-module _ (due k : ℕ) where
-  pub starves_none : due ≡ none_due → false ≡ starves due k
-  unfolding starves
-  starves_none z = rw (eq-eqb due none_due z)
-
-  pub starves_other : due ≢ none_due → not (eqb due k) ≡ starves due k
-  unfolding starves
-  starves_other x = rw (ne_eqb due none_due x)
-
-  -- it is due, and not this one
-  pub starves_tells : {b : Bool} → b ≡ starves due k → b ≡ true → (due ≢ none_due) × (due ≢ k)
-  unfolding starves
-  starves_tells e t = (λ z. true≢false (sym t ∙ e ∙ rw (eq-eqb due none_due z)), λ z. true≢false (sym t ∙ e ∙ rw (eq-eqb due k z) (and-false (not (eqb due none_due)))))
+-- it is due, and not this one
+pub starves_tells : (due : Option ℕ) (k : ℕ) → starves due k ≡ true → (d : ℕ) × (due ≡ Some d) × (d ≢ k)
+unfolding starves
+starves_tells None k t = absurd (true≢false (sym t))
+starves_tells (Some d) k t = (d, refl, λ q. true≢false (sym t ∙ rw (eq-eqb d k q)))

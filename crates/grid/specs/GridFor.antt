@@ -7,6 +7,7 @@ use Rattle.tasks.specs.Instance.{Instance, job_slot, job_end, Regular}
 use Rattle.table.specs.Table.{work_left}
 use Rattle.rules.specs.Rules.{even_rates, twin}
 use Rattle.sets.specs.Sets.{has}
+use Rattle.grid.specs.declared.Grid.{Grid}
 use Rattle.grid.specs.Grid.{entry_on, ends_on, rate_on, rated_on, evens_on, twin_on, tasks_on, cores_on, slots_on}
 
 -- an instance that the arrays can hold, each of whose jobs has a slot
@@ -36,7 +37,7 @@ is_quick zero = false
 is_quick (suc e) = true
 
 -- a grid for an instance and an engine
-pub record GridFor (P : Instance) (e : ℕ) (grid : List ℕ) : Type 0 where
+pub record GridFor (P : Instance) (e : ℕ) (grid : Grid) : Type 0 where
   pub slots : slots_on grid ≡ P.slots
   pub cores : cores_on grid ≡ P.cores
   pub tasks : tasks_on grid ≡ P.tasks
@@ -45,7 +46,7 @@ pub record GridFor (P : Instance) (e : ℕ) (grid : List ℕ) : Type 0 where
   pub rates : (v j : ℕ) → v < P.tasks → j < P.cores → rate_on grid v j ≡ P.rate (suc v) j
   pub rated : (v j : ℕ) → v < P.tasks → j < P.cores → has (rated_on grid) v j ≡ ltb 0 (P.rate (suc v) j)
   pub evens : (v : ℕ) → v < P.tasks → has (evens_on grid) v 0 ≡ is_quick e && even_rates P (suc v)
-  pub twins : (a j : ℕ) → a < P.cores → j < a → twin_on grid a j ≡ gate (is_quick e && twin P j a) 1
+  pub twins : (a j : ℕ) → a < P.cores → j < a → twin_on grid a j ≡ is_quick e && twin P j a
 
 -- the counters hold the work left before cell c
 pub record Lefts (P : Instance) (c : ℕ) (f : ℕ → ℕ) (l : List ℕ) : Type 0 where
