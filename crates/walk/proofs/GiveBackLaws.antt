@@ -10,8 +10,11 @@ use lib.ListN.{set}
 use lib.Seq.{set-set, set-get_or}
 use Rattle.laws.specs.Lists.{nth}
 use Rattle.sets.specs.Sets.{has}
+use Rattle.grid.specs.declared.Grid.{Grid}
 use Rattle.grid.specs.Grid.{counter_on, cores_on, slots_on, tasks_on, sets_on, bars_idle, floor_on, all_settled_on}
-use Rattle.walk.specs.Machine.{End, Found, NoneFound, Stopped, State, state, unless_ended, Onward, idle_last, placed, try_from, after_cell, walk_on}
+use Rattle.walk.specs.declared.End.{End}
+use Rattle.walk.specs.declared.End.TheVariants.{Found, NoneFound, Stopped}
+use Rattle.walk.specs.Machine.{State, state, unless_ended, Onward, idle_last, placed, try_from, after_cell, walk_on}
 
 -- Stopped is not NoneFound
 pub stopped_apart : ◌≡◌ {A = End} Stopped NoneFound → ⊥
@@ -52,7 +55,7 @@ then_gives l r k h = go r.end refl
     go Stopped q z = absurd (stopped_apart (sym q ∙ z))
 
 -- the values of a cell
-module _ (grid : List ℕ) (limit first slot core sets : ℕ) (next : Onward) (gives : GivesBack next) where
+module _ (grid : Grid) (limit first slot core sets : ℕ) (next : Onward) (gives : GivesBack next) where
   try_gives : (j floor : ℕ) (t l : List ℕ) (v u : ℕ) → GivenBack l (try_from grid limit first slot core sets next j floor t l v u)
   unfolding try_from idle_last placed
   try_gives zero floor t l v u = either_gives l (bars_idle grid sets core) _ _ (λ _. refl) (either_gives l (eqb u limit) _ _ (stopped_gives l t l u) (gives sets (set t (first + core) 0) l (u + 1)))
@@ -63,14 +66,14 @@ module _ (grid : List ℕ) (limit first slot core sets : ℕ) (next : Onward) (g
       (try_gives j floor t l (v + 1) u)
 
 -- from a cell on
-pub after_gives : (grid : List ℕ) (walk : ℕ → ℕ → ℕ → Onward) → ((first slot core : ℕ) → GivesBack (walk first slot core)) → (first slot core : ℕ) → GivesBack (after_cell grid walk first slot core)
+pub after_gives : (grid : Grid) (walk : ℕ → ℕ → ℕ → Onward) → ((first slot core : ℕ) → GivesBack (walk first slot core)) → (first slot core : ℕ) → GivesBack (after_cell grid walk first slot core)
 unfolding after_cell
 after_gives grid walk gives first slot core sets t l u = either_gives l (ltb core (cores_on grid)) _ _ (gives first slot core sets t l u)
     (either_gives l (all_settled_on grid l slot) _ _
     (either_gives l (ltb (slot + 1) (slots_on grid)) _ _ (gives (first + core) (slot + 1) 0 (sets_on grid l (slot + 1)) t l u) (λ z. absurd (found_apart z)))
     (λ _. refl))
 
-pub walk_gives : (k : ℕ) (grid : List ℕ) (limit first slot core : ℕ) → GivesBack (walk_on k grid limit first slot core)
+pub walk_gives : (k : ℕ) (grid : Grid) (limit first slot core : ℕ) → GivesBack (walk_on k grid limit first slot core)
 unfolding walk_on
 walk_gives zero grid limit first slot core sets t l u = λ _. refl
 walk_gives (suc k) grid limit first slot core sets t l u =

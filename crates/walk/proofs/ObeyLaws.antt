@@ -6,7 +6,7 @@ use native.Mathlib.Numerals.{add-one}
 use mathlib.Core.Path.{◌≡◌, refl, sym, ap, ap₂, ◌∙◌}
 use mathlib.Core.Bool.{Bool, true, false, not, ◌&&◌}
 use mathlib.Core.List.{List}
-use lib.Dec.{leb, eqb, leb→le, le→leb}
+use lib.Dec.{leb, leb→le, le→leb}
 use borrow.Author.Tests.{le-leb}
 use lib.ListN.{length, take}
 use Rattle.laws.specs.Sum.{gate}
@@ -22,6 +22,7 @@ use Rattle.rules.specs.Search.{rule_of}
 use Rattle.rules.proofs.Plain.{prefix_permitted, prefix_settled}
 use Rattle.rules.proofs.Quick.{prefix_quickly}
 use Rattle.sets.specs.Sets.{has}
+use Rattle.grid.specs.declared.Grid.{Grid}
 use Rattle.grid.specs.Grid.{most, tasks_on, bars_idle, twin_rank_on, floor_on}
 use Rattle.grid.specs.GridFor.{Small, GridFor}
 use Rattle.grid.proofs.GridForLaws.{test_same, Sets, core_is, beside_at, permitted_is, bars_is}
@@ -39,7 +40,7 @@ leb_most (suc n) g x = leb_max (most n g) (g n) ∙ ap (λ b. b && leb (g n) x) 
         (λ h. let p = both (leb a x) (leb b x) h in le→leb (max a b) x (omega (arith, leb→le a x p.0, leb→le b x p.1)))
 
 -- the rank on a twin is at most x
-leb_twin : (b : Bool) (r x : ℕ) → leb (gate (not (eqb (gate b 1) 0)) r) x ≡ imp b (leb r x)
+leb_twin : (b : Bool) (r x : ℕ) → leb (gate b r) x ≡ imp b (leb r x)
 unfolding gate
 leb_twin true r x = refl
 leb_twin false r x = le-leb 0 x (omega arith)
@@ -80,7 +81,7 @@ pub goes_prefix : (P : Instance) (e c : ℕ) (t : List ℕ) → c ≤ length t �
 goes_prefix P zero c t room = prefix_settled P c t room
 goes_prefix P (suc e) c t room = prefix_settled P c t room
 
-module _ {P : Instance} (small : Small P) (grid : List ℕ) {first slot core : ℕ} (ef : first ≡ slot * P.cores) (ls : slot < P.slots) (lc : core < P.cores)
+module _ {P : Instance} (small : Small P) (grid : Grid) {first slot core : ℕ} (ef : first ≡ slot * P.cores) (ls : slot < P.slots) (lc : core < P.cores)
     (t : List ℕ) (room : first + core ≤ length t) {sets : ℕ} (holds : Sets P slot core (first + core) (nth t) sets) where
   -- what the plain rule permits
   plain_is : {e : ℕ} → GridFor P e grid → (v : ℕ) → v < P.tasks → permitted P (length (take (first + core) t)) (nth (take (first + core) t)) (suc v) ≡ has sets v core

@@ -26,8 +26,11 @@ use Rattle.rules.specs.Rules.{values, settled, all_settled}
 use Rattle.rules.specs.Search.{rule_of, walked}
 use Rattle.rules.proofs.Limit.{bwalk_from}
 use Rattle.sets.specs.Sets.{has, without}
+use Rattle.grid.specs.declared.Grid.{Grid}
 use Rattle.grid.specs.Grid.{counter_on, rate_on, cores_on, slots_on, sets_on, bars_idle, floor_on, all_settled_on}
-use Rattle.walk.specs.Machine.{End, Found, NoneFound, Stopped, State, state, Onward, one_more, idle_last, placed, try_from, after_cell, walk_on}
+use Rattle.walk.specs.declared.End.{End}
+use Rattle.walk.specs.declared.End.TheVariants.{Found, NoneFound, Stopped}
+use Rattle.walk.specs.Machine.{State, state, Onward, one_more, idle_last, placed, try_from, after_cell, walk_on}
 use Rattle.grid.specs.GridFor.{Small, GridFor, Lefts}
 use Rattle.walk.proofs.GiveBackLaws.{found_apart, stopped_apart, given_back, GivesBack, after_gives, walk_gives}
 use Rattle.walk.proofs.TurnLaws.{ended_stays, skip, stop, tried, back}
@@ -159,7 +162,7 @@ module _ (c : ℕ) (t t₀ : List ℕ) (et : take c t ≡ take c t₀) where
   holds_same h = sets_same (λ d ld. sym (cell_same d ld)) h
 
 -- ---- the walk
-module _ {P : Instance} (small : Small P) (e b : ℕ) (grid : List ℕ) (ready : GridFor P e grid) where
+module _ {P : Instance} (small : Small P) (e b : ℕ) (grid : Grid) (ready : GridFor P e grid) where
   module _ {first slot core sets : ℕ} {t₀ l : List ℕ} (stands : Before P first slot core sets t₀ l) (rest : ℕ) (next : Onward) (gives : GivesBack next)
       (onward : (sets₁ : ℕ) (t₁ l₁ : List ℕ) (u : ℕ) → After P first slot core sets₁ t₁ l₁ → u ≤ b
       → Shows b (cells P) (suc (first + core)) t₁ (next sets₁ t₁ l₁ u) (bwalk b (rule_of e P) (values P) rest (take (suc (first + core)) t₁) u)) where

@@ -1,21 +1,12 @@
 -- The walk on its arrays: a grid, a table and the work left.
 -- Assumes nothing.
-use Rattle.std.specs.Prelude.{ℕ, zero, suc, ◌+◌, ◌*◌, ◌-◌, ◌/◌, ◌%◌, ◌≤◌, ◌<◌, ◌≡◌, false, cond, ◌&&◌, List, leb, ltb, eqb, set}
+use Rattle.std.specs.Prelude.{ℕ, zero, suc, ◌+◌, ◌*◌, ◌-◌, ◌≤◌, ◌<◌, ◌≡◌, false, cond, ◌&&◌, List, leb, ltb, eqb, set}
 use Rattle.laws.specs.Lists.{nth}
 use Rattle.sets.specs.Sets.{has, without}
+use Rattle.grid.specs.declared.Grid.{Grid}
 use Rattle.grid.specs.Grid.{rate_on, tasks_on, cores_on, slots_on, cells_on, counter_on, sets_on, bars_idle, floor_on, all_settled_on, OnGrid}
-
--- how a walk ends
-pub data End : Type 0 where
-  Found : End
-  NoneFound : End
-  Stopped : End
-
--- an end and the tries in one number
-unfoldable pub walk_number : End → ℕ → ℕ
-walk_number Found u = 4294967296 + u
-walk_number NoneFound u = u
-walk_number Stopped u = 8589934592 + u
+use Rattle.walk.specs.declared.End.{End}
+use Rattle.walk.specs.declared.End.TheVariants.{Found, NoneFound, Stopped}
 
 -- an end, the tries, the table and the work left
 pub record State : Type 0 where
@@ -43,7 +34,7 @@ abbrev pub one_more : ℕ → List ℕ → List ℕ → ℕ → State → State
 one_more limit t l u r = cond (eqb u limit) (state Stopped t l u) r
 
 -- the cell of core `core` in the slot: the values v + 1, v + 2, .., j of them, and then idle
-module _ (grid : List ℕ) (limit first slot core sets : ℕ) (next : Onward) where
+module _ (grid : Grid) (limit first slot core sets : ℕ) (next : Onward) where
   -- idle, if rule A does not bar it
   unfoldable pub idle_last : List ℕ → List ℕ → ℕ → State
   idle_last t l u = cond (bars_idle grid sets core) (state NoneFound t l u) (one_more limit t l u (next sets (set t (first + core) 0) l (u + 1)))
@@ -64,7 +55,7 @@ module _ (grid : List ℕ) (limit first slot core sets : ℕ) (next : Onward) wh
       (try_from j floor t l (v + 1) u)
 
 -- from core to core, and from the last core to the next slot, or to the table's end; `walk` goes on from a cell
-unfoldable pub after_cell : List ℕ → (ℕ → ℕ → ℕ → Onward) → ℕ → ℕ → ℕ → Onward
+unfoldable pub after_cell : Grid → (ℕ → ℕ → ℕ → Onward) → ℕ → ℕ → ℕ → Onward
 after_cell grid walk first slot core sets t l u =
     cond (ltb core (cores_on grid)) (walk first slot core sets t l u)
     (cond (all_settled_on grid l slot)
@@ -72,40 +63,40 @@ after_cell grid walk first slot core sets t l u =
     (state NoneFound t l u))
 
 -- the walk over the k cells left, from the cell of a core
-unfoldable pub walk_on : ℕ → List ℕ → ℕ → ℕ → ℕ → ℕ → Onward
+unfoldable pub walk_on : ℕ → Grid → ℕ → ℕ → ℕ → ℕ → Onward
 walk_on zero grid limit first slot core sets t l u = state NoneFound t l u
 walk_on (suc k) grid limit first slot core sets t l u =
     try_from grid limit first slot core sets (after_cell grid (walk_on k grid limit) first slot (core + 1)) (tasks_on grid) (floor_on grid t first core) t l 0 u
 
--- where the walk stands: place slot * 4 + core, with the sets of the tasks that may still stand in the slot
-pub record Stands (grid : List ℕ) (place sets : ℕ) : Type 0 where
-  pub fits : OnGrid grid (place / 4)
-  pub core_in : place % 4 < cores_on grid
+-- where the walk stands: at the cell of a core in a slot, with the sets of the tasks that may still stand in the slot
+pub record Stands (grid : Grid) (slot core sets : ℕ) : Type 0 where
+  pub fits : OnGrid grid slot
+  pub core_in : core < cores_on grid
   pub within : (v c : ℕ) → tasks_on grid ≤ v → c < 4 → has sets v c ≡ false
 
--- the first cell of the slot of a place
-abbrev pub first_on : List ℕ → ℕ → ℕ
-first_on grid place = place / 4 * cores_on grid
+-- the first cell of a slot
+abbrev pub first_on : Grid → ℕ → ℕ
+first_on grid slot = slot * cores_on grid
 
--- the cells left after the cell of a place
-abbrev pub cells_left : List ℕ → ℕ → ℕ
-cells_left grid place = cells_on grid - (first_on grid place + (place % 4 + 1))
+-- the cells left after the cell of a core in a slot
+abbrev pub cells_left : Grid → ℕ → ℕ → ℕ
+cells_left grid slot core = cells_on grid - (first_on grid slot + (core + 1))
 
 -- the tries are counted up to here
 abbrev pub full : ℕ
 full = 4294967295
 
--- a number, a table and the work left tell a state, whose tries are counted
-pub record Leaves (limit : ℕ) (s : State) (r : ℕ) (t l : List ℕ) : Type 0 where
-  pub answer : r ≡ walk_number s.end s.tries
+-- an end, a table, the work left and the tries are those of a state
+pub record Leaves (s : State) (e : End) (t l : List ℕ) (u : ℕ) : Type 0 where
+  pub end : e ≡ s.end
   pub table : t ≡ s.table
   pub left : l ≡ s.left
-  pub most : s.tries ≤ limit
+  pub tries : u ≡ s.tries
 
 -- what a walk from a cell answers and leaves
-pub record Ran (grid : List ℕ) (place sets : ℕ) (t l : List ℕ) (u r : ℕ) (t' l' : List ℕ) : Type 0 where
-  pub leaves : Leaves full (walk_on (suc (cells_left grid place)) grid full (first_on grid place) (place / 4) (place % 4) sets t l u) r t' l'
+pub record Ran (grid : Grid) (slot core sets : ℕ) (t l : List ℕ) (u : ℕ) (e : End) (t' l' : List ℕ) (u' : ℕ) : Type 0 where
+  pub leaves : Leaves (walk_on (suc (cells_left grid slot core)) grid full (first_on grid slot) slot core sets t l u) e t' l' u'
 
 -- the same after a cell, with the slot to finish
-pub record RanAfter (grid : List ℕ) (place sets : ℕ) (t l : List ℕ) (u r : ℕ) (t' l' : List ℕ) : Type 0 where
-  pub leaves : Leaves full (after_cell grid (walk_on (cells_left grid place) grid full) (first_on grid place) (place / 4) (place % 4 + 1) sets t l u) r t' l'
+pub record RanAfter (grid : Grid) (slot core sets : ℕ) (t l : List ℕ) (u : ℕ) (e : End) (t' l' : List ℕ) (u' : ℕ) : Type 0 where
+  pub leaves : Leaves (after_cell grid (walk_on (cells_left grid slot core) grid full) (first_on grid slot) slot (core + 1) sets t l u) e t' l' u'
