@@ -1,235 +1,183 @@
 -- The grid of a sound list is right for the list's instance.
 -- Assumes nothing.
-use Prim.Native.Nat.{ℕ, zero, suc, ◌+◌, ◌*◌, ◌-◌, ◌/◌, ◌%◌, ◌≤◌, ◌<◌}
+use Prim.Native.Nat.{ℕ, zero, suc, ◌+◌, ◌*◌, ◌/◌, ◌%◌, ◌^◌, ◌≤◌, ◌<◌}
 use native.Mathlib.Omega.{arith}
+use native.Mathlib.Decide.{ℕ_discrete}
 use native.Mathlib.Nat.{div-le_self, zero-add}
 use mathlib.Core.Path.{◌≡◌, refl, sym, ap, ap₂, subst, ◌∙◌}
-use mathlib.Core.Logic.{◌⊎◌, inl, inr, ⊎_elim}
-use mathlib.Core.Bool.{◌&&◌}
-use mathlib.Core.List.{List}
-use lib.Dec.{T, eqb, ltb}
+use mathlib.Core.Bool.{Bool, true, false, ◌&&◌, and-true}
+use mathlib.Core.List.{List, [], ◌∷◌}
+use lib.Dec.{eqb, ltb}
 use borrow.Author.Tests.{lt-ltb}
 use lib.ListN.{length, replicate, length-replicate}
 use lib.Arith.{digits_div, digits_mod}
 use Rattle.laws.specs.Sum.{gate}
 use Rattle.laws.specs.Tests.{all}
 use Rattle.laws.specs.Lists.{nth, filled}
-use Rattle.laws.proofs.SumLaws.{lt_or_ge}
-use Rattle.laws.proofs.TestLaws.{all_same, all_at, at_all, imp_make}
-use Rattle.laws.proofs.ListLaws.{seek_before, filled_length, filled_at, filled_before}
+use Rattle.laws.proofs.SumLaws.{gate_le}
+use Rattle.laws.proofs.TestLaws.{all_same, all_true}
+use Rattle.laws.proofs.ListLaws.{seek_before, filled_at, tab_at}
 use Rattle.tasks.specs.declared.Task.{Task}
-use Rattle.tasks.specs.declared.TaskList.{TaskList}
-use Rattle.tasks.specs.Task.{task, rate, task_at, rows}
+use Rattle.tasks.specs.declared.Rates.{Rates}
+use Rattle.tasks.specs.Task.{task, rate}
 use Rattle.tasks.specs.Refusal.{IsSound, table_length}
 use Rattle.tasks.specs.Window.{is_jobs}
 use Rattle.tasks.specs.Instance.{job_slot, instance_of, own_instance}
-use Rattle.tasks.proofs.SoundLaws.{rows_length, rows_task, SoundList, sound_list, length_whole, sound_cyclic, instance_regular}
+use Rattle.tasks.proofs.SoundLaws.{SoundList, sound_list, length_whole, sound_cyclic, instance_regular}
 use Rattle.tasks.proofs.WindowLaws.{job_slot_lem, highest_passes}
 use Rattle.windows.specs.Answer.{Fit}
 use Rattle.windows.proofs.AnswerLaws.{sound_fit}
 use Rattle.rules.specs.Rules.{even_rates, twin}
 use Rattle.sets.specs.Sets.{has}
-use Rattle.grid.specs.Grid.{cores_on, sets_at, OnGrid}
+use Rattle.sets.proofs.SetLaws.{pushed_first, pushed_next}
+use Rattle.grid.specs.declared.Grid.{Grid}
+use Rattle.grid.specs.Grid.{cores_on, OnGrid}
 use Rattle.grid.specs.GridFor.{Small, entry_of, is_quick, GridFor}
-use Rattle.grid.proofs.GridForLaws.{test_same, counter_le}
-use Rattle.grid.proofs.ReadLaws.{sets_at_lem}
-use Rattle.fill.specs.Grid.{entry_for, entry_at, even_pair, pair_even, row_even, cores_twin, quick_mark, task_bits, four_tasks, set_marks, twin_marks, task_count, core_count, slot_count, marks, mark_at, end_mark, unmarked_of, grid_of}
-use Rattle.fill.proofs.FillLaws.{size_tasks, size_cores, size_slots, at_rate, at_set, at_twin, at_size}
-use Rattle.fill.proofs.BitLaws.{bits_even_has, bits_rated_has, four_lt, four_has}
+use Rattle.grid.proofs.GridForLaws.{counter_le}
+use Rattle.fill.specs.Grid.{entry_for, entry_in, entries_of, end_mark, rate_in, even_pair, even_row, sets_by, quick_bit, rated_bit, rated_row, cores_twin, twins_of, grid_of}
+use Rattle.fill.proofs.FillLaws.{rows_at}
+use Rattle.fill.proofs.RateLaws.{quick_few, bit_le, rated_few}
 
 -- ---- the list's instance
 -- what a sound list has for the grid
-pub sound_fits : (list : TaskList) (m L : ℕ) → IsSound m (rows list) → L ≡ table_length (rows list)
-    → (list.n ≤ 16) × (L ≤ 1024) × ((k : ℕ) → k < list.n → Fit L (task_at list k))
-sound_fits list m L s e =
-    let sound = sound_list m (rows list) s in
-    (omega (arith, rows_length list), omega arith, λ k l. rw (← rows_task list k l, e) (sound_fit sound (suc k) (omega arith) (omega (arith, rows_length list))))
+pub sound_fits : (ts : List Task) (m L : ℕ) → IsSound m ts → L ≡ table_length ts
+    → (length ts ≤ 16) × (L ≤ 1024) × ((k : ℕ) → k < length ts → Fit L (task ts (suc k)))
+sound_fits ts m L s e =
+    let sound = sound_list m ts s in
+    (sound.few_tasks, omega (arith, sound.few_slots), λ k l. rw e (sound_fit sound (suc k) (omega arith) l))
 
-module _ {m : ℕ} (list : TaskList) (s : SoundList m (rows list)) where
+module _ {m : ℕ} {ts : List Task} (s : SoundList m ts) where
   -- its instance fits the arrays, and each of its jobs has a slot
-  pub instance_small : Small (own_instance m (rows list))
+  pub instance_small : Small (own_instance m ts)
   unfolding instance_of is_jobs
   instance_small = record {
     regular = instance_regular s (length_whole s);
     few_slots = s.few_slots;
     few_cores = s.few_cores;
     few_tasks = s.few_tasks;
-    few_jobs = λ i x l. omega (arith, div-le_self (table_length (rows list)) (task (rows list) i).period.0, s.few_slots);
+    few_jobs = λ i x l. omega (arith, div-le_self (table_length ts) (task ts i).period.0, s.few_slots);
     job_ends = λ i k x l h.
-        let w = job_slot_lem (sound_cyclic s (length_whole s) i x l) (task (rows list) i).offset.0 k h in
-        highest_passes (table_length (rows list)) (job_slot (own_instance m (rows list)) i k) w.0 w.1 w.2;
+        let w = job_slot_lem (sound_cyclic s (length_whole s) i x l) (task ts i).offset.0 k h in
+        highest_passes (table_length ts) (job_slot (own_instance m ts) i k) w.0 w.1 w.2;
   }
 
--- ---- reading the grid
-module _ (list : TaskList) (m e L : ℕ) (few : L ≤ 1024) where
-  entries : List ℕ
-  entries = filled (replicate 17499 0) 0 (L * 16) (entry_at list L)
+-- ---- the slots in which jobs end
+-- no entry before the mark of a slot is odd
+ends_before : (entries : List ℕ) (n L t v : ℕ) → L ≤ 1024 → t < L → v < nth (filled (replicate 1024 0) 0 L (end_mark entries n)) t → nth entries (t * 16 + v) % 2 ≡ 0
+unfolding end_mark
+ends_before entries n L t v few lt before = seek_before n (λ v. nth entries (t * 16 + v) % 2) v
+    (subst (λ k. v < k) (ap (nth (filled (replicate 1024 0) 0 L (end_mark entries n))) (sym (zero-add t)) ∙ filled_at (replicate 1024 0) 0 L (end_mark entries n) t lt (omega (arith, length-replicate {A = ℕ} 1024 0))) before)
 
-  unmarked : List ℕ
-  unmarked = unmarked_of list m e L (replicate 17499 0)
+-- ---- the sets
+-- a task of the list is in the sets on the cores that the rule gives of it
+sets_has : (bits : Task → ℕ) → ((τ : Task) → bits τ < 16) → (ts : List Task) (v c : ℕ) → v < length ts → c < 4 → has (sets_by bits ts) v c ≡ has (bits (task ts (suc v))) 0 c
+unfolding sets_by
+sets_has bits few [] v c l lc = absurd (omega arith)
+sets_has bits few (τ ∷ ts) zero c l lc = pushed_first (sets_by bits ts) (bits τ) c lc
+sets_has bits few (τ ∷ ts) (suc v) c l lc = pushed_next (sets_by bits ts) (bits τ) v c (few τ) ∙ sets_has bits few ts v c (omega arith) lc
 
-  grid : List ℕ
-  grid = grid_of list m e L (replicate 17499 0)
+-- the bit of a test tells it
+bit_tells : (b : Bool) → eqb (gate b 1) 1 ≡ b
+unfolding gate
+bit_tells true = refl
+bit_tells false = refl
 
-  entries_length : length entries ≡ 17499
-  unfolding entries
-  entries_length = filled_length (replicate 17499 0) 0 (L * 16) (entry_at list L) ∙ length-replicate {A = ℕ} 17499 0
+-- the bit of rule A
+quick_has : (e : ℕ) (b : Bool) → has (quick_bit e b) 0 0 ≡ is_quick e && b
+unfolding has quick_bit
+quick_has e b = ap (λ d. eqb d 1) (at (is_quick e && b)) ∙ bit_tells (is_quick e && b)
+  where
+    at : (t : Bool) → gate t 1 / 2 ^ (4 * 0 + 0) % 2 ≡ gate t 1
+    at t = omega (arith, gate_le t 1)
 
-  unmarked_length : length unmarked ≡ 17499
-  unfolding unmarked unmarked_of entries
-  unmarked_length = filled_length entries 16384 marks (mark_at list.n list.rates m e L) ∙ entries_length
+-- the bits of positive rates, core by core
+rated_has : (r : Rates) (j : ℕ) → j < 4 → has (rated_row r) 0 j ≡ ltb 0 (nth r.0 j)
+unfolding has rated_row rated_bit
+rated_has r j l = ap (λ d. eqb d 1) (at j l) ∙ bit_tells (ltb 0 (nth r.0 j))
+  where
+    at : (j : ℕ) → j < 4 → rated_row r / 2 ^ (4 * 0 + j) % 2 ≡ rated_bit (nth r.0 j)
+    at zero l = omega (arith, bit_le r 0, bit_le r 1, bit_le r 2, bit_le r 3)
+    at (suc zero) l = omega (arith, bit_le r 0, bit_le r 1, bit_le r 2, bit_le r 3)
+    at (suc (suc zero)) l = omega (arith, bit_le r 0, bit_le r 1, bit_le r 2, bit_le r 3)
+    at (suc (suc (suc zero))) l = omega (arith, bit_le r 0, bit_le r 1, bit_le r 2, bit_le r 3)
+    at (suc (suc (suc (suc j)))) l = absurd (omega arith)
 
-  -- below the marks of ends
-  below_ends : (x : ℕ) → x < 16475 → nth grid x ≡ nth unmarked x
-  unfolding grid grid_of unmarked
-  below_ends x l = filled_before unmarked 16475 L (end_mark unmarked list.n) x l
-
-  -- the entries
-  at_entry : (x : ℕ) → x < L * 16 → nth grid x ≡ entry_at list L x
-  unfolding unmarked unmarked_of entries
-  at_entry x l = below_ends x (omega arith)
-      ∙ filled_before entries 16384 marks (mark_at list.n list.rates m e L) x (omega arith)
-      ∙ ap (nth entries) (omega arith)
-      ∙ filled_at (replicate 17499 0) 0 (L * 16) (entry_at list L) x l (rw (length-replicate {A = ℕ} 17499 0) (omega arith))
-
-  -- the marks
-  at_mark : (p x : ℕ) → p ≡ 16384 + x → x < marks → nth grid p ≡ mark_at list.n list.rates m e L x
-  unfolding unmarked unmarked_of entries
-  at_mark p x z l = ap (nth grid) z ∙ below_ends (16384 + x) (omega arith) ∙ filled_at entries 16384 marks (mark_at list.n list.rates m e L) x l (rw entries_length (omega arith))
-
-  -- before the mark no entry of the slot is odd
-  at_ends : (t v : ℕ) → t < L → v < list.n → list.n ≤ 16 → v < nth grid (16475 + t) → nth grid (t * 16 + v) % 2 ≡ 0
-  unfolding grid grid_of unmarked end_mark
-  at_ends t v lt lv ln before = ap (λ x. x % 2) (below_ends (t * 16 + v) (omega arith))
-      ∙ seek_before list.n (λ v. nth unmarked (t * 16 + v) % 2) v (omega (arith, filled_at unmarked 16475 L (end_mark unmarked list.n) t lt (rw unmarked_length (omega arith))))
-
--- ---- the list's rates
--- the rate on a core, in the flat list
-row_at : (list : TaskList) (k j : ℕ) → j < 4 → rate (task_at list k) j ≡ nth list.rates (k * 4 + j)
-unfolding task_at
-row_at list k zero l = ap (nth list.rates) (omega arith)
-row_at list k (suc zero) l = refl
-row_at list k (suc (suc zero)) l = refl
-row_at list k (suc (suc (suc zero))) l = refl
-row_at list k (suc (suc (suc (suc j)))) l = absurd (omega arith)
-
--- an entry of the instance is that of the task
-entry_same : (L m : ℕ) (ts : List Task) (i t : ℕ) → entry_for L (task ts i) i t ≡ entry_of (instance_of L m ts) i t
-unfolding entry_for entry_of instance_of is_jobs
-entry_same L m ts i t = refl
-
--- the entry of a task in a slot
-entry_is : (list : TaskList) (L t v : ℕ) → v < 16 → v < list.n → entry_at list L (t * 16 + v) ≡ entry_for L (task_at list v) (suc v) t
-unfolding entry_at
-entry_is list L t v lv ln = rw (digits_mod t lv, digits_div t lv, lt-ltb v list.n ln)
+-- ---- the tests of rates
+-- m of n tests, where the others pass
+all_fewer : (n m : ℕ) (f : ℕ → Bool) → m ≤ n → ((v : ℕ) → m ≤ v → v < n → f v ≡ true) → all n f ≡ all m f
+all_fewer zero m f l pass = let none : 0 ≡ m = omega arith in ap (λ m. all m f) none
+all_fewer (suc n) m f l pass = elim (ℕ_discrete m (suc n)) [
+  | yes e ↦ ap (λ m. all m f) (sym e)
+  | no x ↦ rw (pass n (omega arith) (omega arith), and-true) (all_fewer n m f (omega arith) (λ v lm ln. pass v lm (omega arith)))
+]
 
 -- a rate of 0 is even with each
-zero_even : (x y : ℕ) → (x ≡ 0) ⊎ (y ≡ 0) → T (even_pair x y)
+zero_even : (y : ℕ) → even_pair 0 y ≡ true
 unfolding even_pair
-zero_even x y z = imp_make (ltb 0 x) _ (λ t. imp_make (ltb 0 y) _ (λ u. ⊎_elim
-    (λ h. absurd (subst (λ x. T (ltb 0 x)) h t))
-    (λ h. absurd (subst (λ y. T (ltb 0 y)) h u))
-    z))
+zero_even y = refl
+
+even_zero : (x : ℕ) → even_pair x 0 ≡ true
+unfolding even_pair
+even_zero zero = refl
+even_zero (suc x) = rw (lt-ltb 0 (suc x) (omega arith)) refl
 
 -- four rates, 0 from m on: each is even with each if those below m are
 few_even : (m : ℕ) (r : ℕ → ℕ) → m ≤ 4 → ((j : ℕ) → m ≤ j → j < 4 → r j ≡ 0)
-    → all 16 (λ x. even_pair (r (x / 4)) (r (x % 4))) ≡ all m (λ a. all m (λ b. even_pair (r a) (r b)))
-few_even m r l beyond = test_same _ _
-    (λ t. at_all m (λ a. all m (λ b. even_pair (r a) (r b))) (λ a la. at_all m (λ b. even_pair (r a) (r b)) (λ b lb. let k : b < 4 = omega arith in
-    subst T (ap₂ (λ i j. even_pair (r i) (r j)) (digits_div a k) (digits_mod a k)) (all_at 16 (λ x. even_pair (r (x / 4)) (r (x % 4))) t (a * 4 + b) (omega arith)))))
-    (λ t. at_all 16 (λ x. even_pair (r (x / 4)) (r (x % 4))) (λ x lx. ⊎_elim
-    (λ la. ⊎_elim
-    (λ lb. all_at m (λ b. even_pair (r (x / 4)) (r b)) (all_at m (λ a. all m (λ b. even_pair (r a) (r b))) t (x / 4) la) (x % 4) lb)
-    (λ lb. zero_even (r (x / 4)) (r (x % 4)) (inr (beyond (x % 4) lb (omega arith))))
-    (lt_or_ge (x % 4) m))
-    (λ la. zero_even (r (x / 4)) (r (x % 4)) (inl (beyond (x / 4) la (omega arith))))
-    (lt_or_ge (x / 4) m)))
+    → all 4 (λ a. all 4 (λ b. even_pair (r a) (r b))) ≡ all m (λ a. all m (λ b. even_pair (r a) (r b)))
+few_even m r l none =
+    all_same 4 _ _ (λ a la. all_fewer 4 m (λ b. even_pair (r a) (r b)) l (λ b lm lb. ap (even_pair (r a)) (none b lm lb) ∙ even_zero (r a)))
+    ∙ all_fewer 4 m (λ a. all m (λ b. even_pair (r a) (r b))) l (λ a lm la. all_true m _ (λ b lb. ap (λ x. even_pair x (r b)) (none a lm la) ∙ zero_even (r b)))
 
-module _ {m : ℕ} (list : TaskList) (s : SoundList m (rows list)) where
-  -- a task of the instance is one of the list's
-  pub is_task : (v : ℕ) → v < length (rows list) → (v < list.n) × (task (rows list) (suc v) ≡ task_at list v)
-  is_task v l = let k : v < list.n = rw (rows_length list) at l in (k, rows_task list v k)
-
-  -- and so are its rates
-  rate_same : (v j : ℕ) → v < length (rows list) → j < 4 → nth list.rates (v * 4 + j) ≡ rate (task (rows list) (suc v)) j
-  rate_same v j l lj = sym (ap (λ τ. rate τ j) (is_task v l).1 ∙ row_at list v j lj)
-
+module _ {m : ℕ} {ts : List Task} (s : SoundList m ts) where
   -- rule A's test
-  even_same : (v : ℕ) → v < length (rows list) → row_even list.rates v ≡ even_rates (own_instance m (rows list)) (suc v)
-  unfolding row_even pair_even even_pair even_rates instance_of
-  even_same v l =
-      few_even m (λ j. nth list.rates (v * 4 + j)) s.few_cores (λ j k lj. rate_same v j l lj ∙ (s.in_range (suc v) (omega arith) l).rate_beyond j k lj)
-      ∙ all_same m _ _ (λ a la. all_same m _ _ (λ b lb. ap₂ even_pair (rate_same v a l (omega (arith, s.few_cores))) (rate_same v b l (omega (arith, s.few_cores)))))
+  even_same : (v : ℕ) → v < length ts → even_row (task ts (suc v)).rates ≡ even_rates (own_instance m ts) (suc v)
+  unfolding even_row even_pair even_rates instance_of
+  even_same v l = few_even m (rate (task ts (suc v))) s.few_cores (s.in_range (suc v) (omega arith) l).rate_beyond
 
   -- rule B's
-  twin_same : (a b : ℕ) → a < 4 → b < 4 → cores_twin list.n list.rates a b ≡ twin (own_instance m (rows list)) a b
+  twin_same : (a b : ℕ) → cores_twin ts a b ≡ twin (own_instance m ts) a b
   unfolding cores_twin twin instance_of
-  twin_same a b la lb = ap (λ n. all n (λ v. eqb (nth list.rates (v * 4 + a)) (nth list.rates (v * 4 + b)))) (sym (rows_length list))
-      ∙ all_same (length (rows list)) _ _ (λ v l. ap₂ eqb (rate_same v a l la) (rate_same v b l lb))
+  twin_same a b = refl
 
+  -- the grid is ready for the instance
   module _ (e : ℕ) where
-    -- the marks of the list's own table
-    mark_at_lem : (p x : ℕ) → p ≡ 16384 + x → x < marks → nth (grid_of list m e (table_length (rows list)) (replicate 17499 0)) p ≡ mark_at list.n list.rates m e (table_length (rows list)) x
-    unfolding grid
-    mark_at_lem = at_mark list m e (table_length (rows list)) s.few_slots
-
-    -- the sets that stand in four places, p places behind the first of rule A
-    set_has : (p v c : ℕ) → p ≤ 4 → v < 16 → c < 4
-        → has (sets_at (grid_of list m e (table_length (rows list)) (replicate 17499 0)) (16448 + p)) v c ≡ has (task_bits e list.rates (p * 4 + v)) 0 c
-    set_has p v c lp lv lc =
-        ap (λ w. has (sets_at own (16448 + p)) w c) (omega arith)
-        ∙ sets_at_lem own (16448 + p) (v / 4) (v % 4) c (omega arith) (omega arith) lc (λ k lk. rw (place k lk) (four_lt e list.rates (p + k)))
-        ∙ ap (λ s. has s (v % 4) c) (place (v / 4) (omega arith)) ∙ four_has e list.rates (p + v / 4) (v % 4) c (omega arith) lc
-        ∙ ap (λ y. has (task_bits e list.rates y) 0 c) (omega arith)
-      where
-        own : List ℕ
-        own = grid_of list m e (table_length (rows list)) (replicate 17499 0)
-
-        place : (k : ℕ) → k < 4 → nth own (16448 + p + k) ≡ four_tasks e list.rates (p + k)
-        place k lk = mark_at_lem (16448 + p + k) (set_marks + (p + k)) (omega arith) (omega arith) ∙ at_set _ _ _ _ _ _ (omega arith) (omega arith) ∙ ap (four_tasks e list.rates) (omega arith)
-
-    -- the grid is ready for the instance
-    pub grid_for : GridFor (own_instance m (rows list)) e (grid_of list m e (table_length (rows list)) (replicate 17499 0))
-    unfolding grid instance_of quick_mark
+    pub grid_for : GridFor (own_instance m ts) e (grid_of ts m e (table_length ts))
+    unfolding grid_of entry_for entry_of twins_of instance_of is_jobs
     grid_for = record {
-      slots = mark_at_lem 16474 slot_count refl (omega arith) ∙ at_size _ _ _ _ _ slot_count (omega arith) ∙ sym (size_slots _ _ _ slot_count (omega arith) (omega arith));
-      cores = mark_at_lem 16473 core_count refl (omega arith) ∙ at_size _ _ _ _ _ core_count (omega arith) ∙ sym (size_cores _ _ _ core_count refl);
-      tasks = mark_at_lem 16472 task_count refl (omega arith) ∙ at_size _ _ _ _ _ task_count (omega arith) ∙ sym (size_tasks _ _ _ task_count refl) ∙ sym (rows_length list);
-      entries = λ t v lt lv. let k = is_task v lv in
-          at_entry list m e (table_length (rows list)) s.few_slots (t * 16 + v) (omega (arith, rows_length list, s.few_tasks))
-          ∙ entry_is list (table_length (rows list)) t v (omega (arith, rows_length list, s.few_tasks)) k.0
-          ∙ ap (λ τ. entry_for (table_length (rows list)) τ (suc v) t) (sym k.1) ∙ entry_same (table_length (rows list)) m (rows list) (suc v) t;
-      ends = λ t v lt lv z.
-          at_ends list m e (table_length (rows list)) s.few_slots t v lt (is_task v lv).0 (omega (arith, rows_length list, s.few_tasks)) z;
-      rates = λ v j lv lj. let few : j < 4 = omega (arith, s.few_cores) in let small : v < 16 = omega (arith, s.few_tasks) in
-          mark_at_lem (16384 + (v * 4 + j)) (v * 4 + j) refl (omega arith) ∙ at_rate _ _ _ _ _ _ (omega arith) ∙ rate_same v j lv few;
+      slots = refl;
+      cores = refl;
+      tasks = refl;
+      entries = λ t v lt lv. rows_at 16 (length ts) (entry_in ts (table_length ts)) (replicate 16384 0) (table_length ts) t v lt lv s.few_tasks
+          (omega (arith, length-replicate {A = ℕ} 16384 0, s.few_slots));
+      ends = λ t v lt lv before. ends_before (entries_of ts (table_length ts) (replicate 16384 0)) (length ts) (table_length ts) t v s.few_slots lt before;
+      rates = λ v j lv lj. rows_at 4 4 (rate_in ts) (replicate 64 0) (length ts) v j lv (omega (arith, s.few_cores)) (omega arith)
+          (omega (arith, length-replicate {A = ℕ} 64 0, s.few_tasks));
       rated = λ v j lv lj. let few : j < 4 = omega (arith, s.few_cores) in
-          set_has 4 v j (omega arith) (omega (arith, s.few_tasks)) few ∙ bits_rated_has e list.rates v j few ∙ ap (ltb 0) (rate_same v j lv few);
-      evens = λ v lv. let small : v < 16 = omega (arith, s.few_tasks) in
-          set_has 0 v 0 (omega arith) small (omega arith) ∙ ap (λ y. has (task_bits e list.rates y) 0 0) (zero-add v) ∙ bits_even_has e list.rates v small ∙ ap (λ b. is_quick e && b) (even_same v lv);
-      twins = λ a j la lj. let few : a < 4 = omega (arith, s.few_cores) in let less : j < 4 = omega arith in let y_same : twin_marks + (a * 4 + j) - twin_marks ≡ a * 4 + j = omega arith in
-          mark_at_lem (16456 + (a * 4 + j)) (twin_marks + (a * 4 + j)) (omega arith) (omega arith) ∙ at_twin _ _ _ _ _ _ (omega arith) (omega arith)
-          ∙ ap (λ b. gate (is_quick e && b) 1) (ap (λ y. cores_twin list.n list.rates (y % 4) (y / 4)) y_same ∙ ap₂ (cores_twin list.n list.rates) (digits_mod a less) (digits_div a less) ∙ twin_same j a less few);
+          sets_has (λ τ. rated_row τ.rates) (λ τ. rated_few τ.rates) ts v j lv few ∙ rated_has (task ts (suc v)).rates j few;
+      evens = λ v lv. sets_has (λ τ. quick_bit e (even_row τ.rates)) (λ τ. quick_few e (even_row τ.rates)) ts v 0 lv (omega arith)
+          ∙ quick_has e (even_row (task ts (suc v)).rates) ∙ ap (λ b. is_quick e && b) (even_same v lv);
+      twins = λ a j la lj. let few : a < 4 = omega (arith, s.few_cores) in let less : j < 4 = omega arith in
+          tab_at 16 (λ x. is_quick e && cores_twin ts (x % 4) (x / 4)) (a * 4 + j) false (omega arith)
+          ∙ ap (λ b. is_quick e && b) (ap₂ (cores_twin ts) (digits_mod a less) (digits_div a less) ∙ twin_same j a);
     }
 
 -- ---- what the walk asks of a grid that was filled
-module _ (m : ℕ) (list : TaskList) (e L : ℕ) (sound : IsSound m (rows list)) (eL : L ≡ table_length (rows list))
-    (grid : List ℕ) (eb : grid ≡ grid_of list m e L (replicate 17499 0)) where
+module _ (m : ℕ) (ts : List Task) (e L : ℕ) (sound : IsSound m ts) (eL : L ≡ table_length ts) (grid : Grid) (eg : grid ≡ grid_of ts m e L) where
   -- it is the instance's
-  pub filled_ready : GridFor (own_instance m (rows list)) e grid
-  filled_ready = subst (GridFor (own_instance m (rows list)) e) (sym (eb ∙ ap (λ n. grid_of list m e n (replicate 17499 0)) eL)) (grid_for list (sound_list m (rows list) sound) e)
+  pub filled_ready : GridFor (own_instance m ts) e grid
+  filled_ready = subst (GridFor (own_instance m ts) e) (sym (eg ∙ ap (grid_of ts m e) eL)) (grid_for (sound_list m ts sound) e)
 
   -- and has a first cell
   pub filled_starts : OnGrid grid 0 × (0 < cores_on grid)
   unfolding instance_of
   filled_starts =
-      let s = sound_list m (rows list) sound in
+      let s = sound_list m ts sound in
       let r = filled_ready in (
         record {
           tasks = omega (arith, r.tasks, s.few_tasks);
           cores = omega (arith, r.cores, s.few_cores);
           slots = omega (arith, r.slots, s.few_slots);
-          counters = λ t v lt lv. counter_le (instance_small list s) r (omega (arith, r.slots)) (omega (arith, r.tasks));
+          counters = λ t v lt lv. counter_le (instance_small s) r (omega (arith, r.slots)) (omega (arith, r.tasks));
           slot_in = omega (arith, r.slots, s.some_slot);
         },
         omega (arith, r.cores, s.some_core),

@@ -1,4 +1,4 @@
 pub mod FillLaws
-pub mod BitLaws
+pub mod RateLaws
 pub mod GridLaws
 pub mod Calls

@@ -1,14 +1,15 @@
 -- What stands on the grid of a list.
 -- Assumes nothing.
-use Rattle.std.specs.Prelude.{ℕ, suc, ◌+◌, ◌*◌, ◌-◌, ◌/◌, ◌%◌, Bool, cond, ◌&&◌, List, ltb, eqb}
+use Rattle.std.specs.Prelude.{ℕ, zero, suc, ◌+◌, ◌*◌, ◌/◌, ◌%◌, Bool, cond, ◌&&◌, List, [], ◌∷◌, ltb, eqb, length, replicate}
 use Rattle.laws.specs.Sum.{gate}
 use Rattle.laws.specs.Tests.{all, imp}
-use Rattle.laws.specs.Lists.{nth, seek, filled}
+use Rattle.laws.specs.Lists.{nth, tab, seek, filled}
+use Rattle.tasks.specs.declared.Rates.{Rates}
 use Rattle.tasks.specs.declared.Task.{Task}
-use Rattle.tasks.specs.declared.TaskList.{TaskList}
-use Rattle.tasks.specs.Task.{task_at}
+use Rattle.tasks.specs.Task.{task, rate}
 use Rattle.tasks.specs.Window.{is_open, job_at, last_slot}
 use Rattle.sets.specs.Sets.{pushed}
+use Rattle.grid.specs.declared.Grid.{Grid}
 use Rattle.grid.specs.GridFor.{counter_of, closed_counter, is_quick}
 
 -- the entry of a task, of number i, in slot t
@@ -19,90 +20,84 @@ entry_for L τ i t =
     + gate (eqb (last_slot L τ.offset.0 τ.deadline.0 τ.period.0 (job_at L τ.offset.0 τ.period.0 t)) t) 1)
     (2 * closed_counter)
 
--- the entries, sixteen places a slot
-unfoldable pub entry_at : TaskList → ℕ → ℕ → ℕ
-entry_at list L x = cond (ltb (x % 16) list.n) (entry_for L (task_at list (x % 16)) (suc (x % 16)) (x / 16)) 0
+-- s with k rows of n numbers each stored in it, row t from place t * w on
+unfoldable pub in_rows : ℕ → ℕ → (ℕ → ℕ → ℕ) → ℕ → List ℕ → List ℕ
+in_rows w n g zero s = s
+in_rows w n g (suc t) s = filled (in_rows w n g t s) (t * w) n (g t)
 
--- two rates are equal, if both are positive
-unfoldable pub even_pair : ℕ → ℕ → Bool
-even_pair x y = imp (ltb 0 x) (imp (ltb 0 y) (eqb x y))
+-- the entry of the task at place v, from 0, in slot t
+abbrev pub entry_in : List Task → ℕ → ℕ → ℕ → ℕ
+entry_in ts L t v = entry_for L (task ts (suc v)) (suc v) t
 
--- the rates of task v on cores x / 4 and x % 4
-unfoldable pub pair_even : List ℕ → ℕ → ℕ → Bool
-pair_even rates v x = even_pair (nth rates (v * 4 + x / 4)) (nth rates (v * 4 + x % 4))
-
--- all positive rates of task v are equal
-unfoldable pub row_even : List ℕ → ℕ → Bool
-row_even rates v = all 16 (pair_even rates v)
-
--- two cores have equal rates for every task
-unfoldable pub cores_twin : ℕ → List ℕ → ℕ → ℕ → Bool
-cores_twin n rates a b = all n (λ v. eqb (nth rates (v * 4 + a)) (nth rates (v * 4 + b)))
-
--- the mark of a test that the quick engine alone makes
-unfoldable pub quick_mark : ℕ → Bool → ℕ
-quick_mark e b = gate (is_quick e && b) 1
-
--- 1 if a rate is positive
-unfoldable pub rated_bit : ℕ → ℕ
-rated_bit rate = gate (ltb 0 rate) 1
-
--- the cores, as bits, on which the rate of task v is positive
-unfoldable pub rated_mark : List ℕ → ℕ → ℕ
-rated_mark rates v =
-    let bit : ℕ → ℕ = λ j. rated_bit (nth rates (v * 4 + j)) in
-    bit 0 + 2 * bit 1 + 4 * bit 2 + 8 * bit 3
-
--- four bits a task of the two sets, one behind the other: rule A's of task y, on core 0 alone; from 16 on, of positive rates, those of task y - 16
-unfoldable pub task_bits : ℕ → List ℕ → ℕ → ℕ
-task_bits e rates y = cond (ltb y 16) (quick_mark e (row_even rates y)) (rated_mark rates (y - 16))
-
--- the same of four tasks, from y = x * 4 on, in one place
-unfoldable pub four_tasks : ℕ → List ℕ → ℕ → ℕ
-four_tasks e rates x =
-    let bits : ℕ → ℕ = λ k. task_bits e rates (x * 4 + k) in
-    pushed (pushed (pushed (bits 3) (bits 2)) (bits 1)) (bits 0)
-
--- where the parts between the entries and the marks of ends begin, counted from the first of them, the rates
-abbrev pub set_marks : ℕ
-set_marks = 64
-
-abbrev pub twin_marks : ℕ
-twin_marks = 72
-
-abbrev pub task_count : ℕ
-task_count = 88
-
-abbrev pub core_count : ℕ
-core_count = 89
-
-abbrev pub slot_count : ℕ
-slot_count = 90
-
--- and how many places they have
-abbrev pub marks : ℕ
-marks = 91
-
--- the number at place x: the tasks, the cores, the slots
-unfoldable pub size_at : ℕ → ℕ → ℕ → ℕ → ℕ
-size_at n m L x = cond (eqb x task_count) n (cond (eqb x core_count) m L)
-
--- what stands at place x: the rates, the sets of rule A and of positive rates, the marks of rule B, the three numbers
-unfoldable pub mark_at : ℕ → List ℕ → ℕ → ℕ → ℕ → ℕ → ℕ
-mark_at n rates m e L x =
-    cond (ltb x set_marks) (nth rates x)
-    (cond (ltb x twin_marks) (four_tasks e rates (x - set_marks))
-    (cond (ltb x task_count) (quick_mark e (cores_twin n rates ((x - twin_marks) % 4) ((x - twin_marks) / 4)))
-    (size_at n m L x)))
+-- s with the entries of L slots, sixteen places a slot
+abbrev pub entries_of : List Task → ℕ → List ℕ → List ℕ
+entries_of ts L = in_rows 16 (length ts) (entry_in ts L) L
 
 -- the first task whose job has its highest-numbered slot in this slot, by its entry; n if there is none
 unfoldable pub end_mark : List ℕ → ℕ → ℕ → ℕ
 end_mark entries n t = seek n (λ v. nth entries (t * 16 + v) % 2)
 
--- the grid for a list on m cores in L slots, by engine e, but for the marks of ends
-unfoldable pub unmarked_of : TaskList → ℕ → ℕ → ℕ → List ℕ → List ℕ
-unmarked_of list m e L s = filled (filled s 0 (L * 16) (entry_at list L)) 16384 marks (mark_at list.n list.rates m e L)
+-- the rate of the task at place v, from 0, on a core
+abbrev pub rate_in : List Task → ℕ → ℕ → ℕ
+rate_in ts v = rate (task ts (suc v))
 
--- the whole grid
-unfoldable pub grid_of : TaskList → ℕ → ℕ → ℕ → List ℕ → List ℕ
-grid_of list m e L s = filled (unmarked_of list m e L s) 16475 L (end_mark (unmarked_of list m e L s) list.n)
+-- the rates, four places a task
+abbrev pub rates_of : List Task → List ℕ
+rates_of ts = in_rows 4 4 (rate_in ts) (length ts) (replicate 64 0)
+
+-- two rates are equal, if both are positive
+unfoldable pub even_pair : ℕ → ℕ → Bool
+even_pair x y = imp (ltb 0 x) (imp (ltb 0 y) (eqb x y))
+
+-- all positive rates of a task are equal
+unfoldable pub even_row : Rates → Bool
+even_row r = all 4 (λ a. all 4 (λ b. even_pair (nth r.0 a) (nth r.0 b)))
+
+-- the sets whose task v is on the cores, as bits, that a rule gives of it
+unfoldable pub sets_by : (Task → ℕ) → List Task → ℕ
+sets_by bits [] = 0
+sets_by bits (τ ∷ ts) = pushed (sets_by bits ts) (bits τ)
+
+-- 1 if a test that the quick engine alone makes passes
+unfoldable pub quick_bit : ℕ → Bool → ℕ
+quick_bit e b = gate (is_quick e && b) 1
+
+-- rule A's set: for the quick engine the tasks whose positive rates are equal, on core 0 alone
+abbrev pub evens_of : ℕ → List Task → ℕ
+evens_of e = sets_by (λ τ. quick_bit e (even_row τ.rates))
+
+-- 1 if a rate is positive
+unfoldable pub rated_bit : ℕ → ℕ
+rated_bit rate = gate (ltb 0 rate) 1
+
+-- the cores, as bits, on which the rate of a task is positive
+unfoldable pub rated_row : Rates → ℕ
+rated_row r = rated_bit (nth r.0 0) + 2 * rated_bit (nth r.0 1) + 4 * rated_bit (nth r.0 2) + 8 * rated_bit (nth r.0 3)
+
+-- the sets of the tasks whose rate on a core is positive
+abbrev pub rated_of : List Task → ℕ
+rated_of = sets_by (λ τ. rated_row τ.rates)
+
+-- two cores have equal rates for every task
+unfoldable pub cores_twin : List Task → ℕ → ℕ → Bool
+cores_twin ts a b = all (length ts) (λ v. eqb (rate_in ts v a) (rate_in ts v b))
+
+-- rule B's marks, at c * 4 + j: for the quick engine cores j and c are twins
+unfoldable pub twins_of : ℕ → List Task → List Bool
+twins_of e ts = tab 16 (λ x. is_quick e && cores_twin ts (x % 4) (x / 4))
+
+-- the grid for a list on m cores in L slots, by engine e
+unfoldable pub grid_of : List Task → ℕ → ℕ → ℕ → Grid
+grid_of ts m e L =
+    let entries : List ℕ = entries_of ts L (replicate 16384 0) in
+    record {
+      entries = entries;
+      ends = filled (replicate 1024 0) 0 L (end_mark entries (length ts));
+      rates = rates_of ts;
+      even = evens_of e ts;
+      rated = rated_of ts;
+      twins = twins_of e ts;
+      tasks = length ts;
+      cores = m;
+      slots = L;
+    }

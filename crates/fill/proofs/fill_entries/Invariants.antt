@@ -1,14 +1,13 @@
--- `fill::fill_entries` meets its contract. The loop's invariant: the entries passed stand on the grid, and the rest is as it was.
+-- `fill::fill_entries` meets its contract. The loops' invariants: the entries passed are stored, and the rest is as it was.
 -- Assumes nothing.
-use Prim.Native.Nat.{◌-◌, ◌≤◌}
-use mathlib.Core.Path.{◌≡◌}
-use Prim.Native.Nat.{◌*◌}
+use Rattle.std.proofs.Common.{◌≡◌, ◌*◌, length}
 use Rattle.laws.specs.Lists.{filled}
-use Rattle.fill.specs.Grid.{entry_at}
+use Rattle.fill.specs.Grid.{in_rows, entry_in}
 use Rattle.fill.proofs.fill_entries.Given as goal
 
-abbrev pub invariant-loop-x : goal.invariant-loop-x
-invariant-loop-x l = (l.n ≡ l.len.0 * 16) × (l.x ≤ l.n) × (l.grid ≡ filled l.initial.grid 0 l.x (entry_at l.list l.len.0))
+abbrev pub invariant-loop-slot : goal.invariant-loop-slot
+invariant-loop-slot l = l.entries ≡ in_rows 16 (length l.tasks) (entry_in l.tasks l.len.0) l.slot l.fn.entries
 
-abbrev pub decreases-loop-x : goal.decreases-loop-x
-decreases-loop-x l = l.n - l.x
+abbrev pub invariant-loop-v : goal.invariant-loop-v
+invariant-loop-v l =
+    l.entries ≡ filled (in_rows 16 (length l.tasks) (entry_in l.tasks l.len.0) l.slot l.fn.entries) (l.slot * 16) l.v (entry_in l.tasks l.len.0 l.slot)
