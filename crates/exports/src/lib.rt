@@ -95,7 +95,7 @@ pub fn xiphomera_check(tasks: &[Task], cores: u32, table: &[u8]) -> u64
 pub fn xiphomera_plan_text(text: &[u8], out: &mut [u8]) -> usize
     ensures { Written (leb 15376 (length out.old)) (answer_to text.now) out.old result out.new }
 {
-    planner::plan_text(text, out)
+    planner::plan_text(text, out).unwrap_or(0)
 }
 
 // Tells what a start or a step answers: 0 and the slots missed, or its refusal and 0; and the four cells, 0 of a refusal.

@@ -26,6 +26,6 @@ fn main(rt: HostRuntime) -> io::Result<()> {
     let mut text = [0u8; 1025];
     let n = read_full(&mut rt.stdin(), &mut text)?;
     let mut out = [0u8; 15376];
-    let written = planner::plan_text(&text[..n], &mut out);
+    let written = planner::plan_text(&text[..n], &mut out).unwrap_or(0);
     rt.stdout().write_all(&out[..written])
 }

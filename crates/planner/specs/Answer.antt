@@ -1,21 +1,11 @@
 -- The planning program: from the bytes of a problem to the bytes of its answer.
 -- Assumes nothing.
-use Rattle.std.specs.Prelude.{ℕ, Bool, true, false, List, [], eqb, replicate}
+use Rattle.std.specs.Prelude.{ℕ, List, [], replicate}
 use Rattle.tasks.specs.declared.Task.{Task}
-use Rattle.tasks.specs.Refusal.{refusal, table_length}
+use Rattle.tasks.specs.Refusal.{table_length}
 use Rattle.rules.specs.Search.{Searched, search}
 use Rattle.frames.specs.Read.{Read, refused, problem, read_problem}
 use Rattle.answer.specs.Write.{write_answer}
-use Rattle.planner.specs.declared.Size.{Size}
-
--- the slots and the cores of a sound list's table, else none
-abbrev pub size_if : Bool → ℕ → ℕ → Size
-size_if true h m = record { slots = h; m = m }
-size_if false h m = record { slots = 0; m = 0 }
-
--- the size of a list's table
-unfoldable pub size_of : ℕ → List Task → Size
-size_of m ts = size_if (eqb (refusal m ts) 0) (table_length ts) m
 
 -- 8.12: 05 with the search's verdict and tries, the 06 lines for verdict 0, and 07
 unfoldable pub search_answer : ℕ → List Task → Searched → List ℕ

@@ -1,1 +1,2 @@
 pub mod Answer
+pub mod Told

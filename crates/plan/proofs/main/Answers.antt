@@ -6,7 +6,7 @@ use Rattle.planner.proofs.TextLaws.{within_out}
 use Rattle.plan.proofs.main.Goals as goal
 
 pub slice_bounds-out-end : goal.slice_bounds-out-end
-slice_bounds-out-end c = within_out c.plan_text-written.ensures c.plan_text-written.auto.out
+slice_bounds-out-end c = within_out c.plan_text.ensures.written c.plan_text-written.auto.out
 
 pub slice_bounds-write_all-end : goal.slice_bounds-write_all-end
 slice_bounds-write_all-end c =
