@@ -1,7 +1,7 @@
 -- What the code finds in a cell is what the definitions say of it; and which numbers fit, where no refusal stands in the way.
 -- Assumes nothing.
 use Prim.Native.Nat.{ℕ, suc, pred, ◌+◌, ◌*◌, ◌-◌, ◌/◌, ◌≤◌, ◌<◌}
-use native.Mathlib.Nat.{mul-le-mul, mul-le-mul_right, div-le_self}
+use native.Mathlib.Nat.{mul-le-mul_right, div-le_self}
 use native.Mathlib.Omega.{arith}
 use mathlib.Core.Path.{◌≡◌, sym, ap, subst, ◌∙◌}
 use mathlib.Core.Logic.{◌≢◌}
@@ -54,11 +54,7 @@ module _ {ts : List Task} {m h : ℕ} {t : List ℕ} (ready : Checkable ts m h t
   pub few_slots : h ≤ 1024
   few_slots = omega (arith, listed.few_slots, ready.slots)
 
-  -- so the numbers of cells are small
-  pub first_small : (slot : ℕ) → slot < h → slot * m ≤ 4096
-  first_small slot l = mul-le-mul {n₂ = 1024} (omega (arith, few_slots)) few_cores
-
-  -- and a cell of the table has its place in the buffer
+  -- a cell of the table has its place in the buffer
   pub cell_in : (slot core : ℕ) → slot < h → core < m → slot * m + core < h * m
   cell_in slot core l lc = omega (arith, mul-le-mul_right m l)
 

@@ -1,7 +1,6 @@
 -- The checker's answer from its parts: refusals, the first faulty cell, and, where no cell is faulty, the first faulty job by the counters.
 -- Assumes nothing.
 use Prim.Native.Nat.{ℕ, zero, suc, pred, ◌*◌, ◌≤◌, ◌<◌}
-use native.Mathlib.Nat.{mul-le-mul}
 use native.Mathlib.Omega.{arith}
 use mathlib.Core.Path.{◌≡◌, refl, sym, ap, subst, ◌∙◌}
 use mathlib.Core.Logic.{◌≢◌, ⊎_elim}
@@ -21,7 +20,6 @@ use Rattle.tasks.specs.Task.{task}
 use Rattle.tasks.specs.Refusal.{unless, or_next, refusal, table_length, IsSound, tested}
 use Rattle.tasks.specs.Told.{tested_as}
 use Rattle.tasks.specs.Instance.{Instance, instance_of, own_instance}
-use Rattle.tasks.proofs.SoundLaws.{sound_list}
 use Rattle.tasks.proofs.RefusalLaws.{some_number}
 use Rattle.tasks.proofs.AnswerLaws.{tested_sound, tested_refused}
 use Rattle.table.specs.Table.{cells, done}
@@ -130,10 +128,6 @@ module _ (m : ℕ) (ts : List Task) (t : List ℕ) where
   module _ {len : Slots} (e : tested_as (Ok len) ≡ tested m ts) where
     sound : IsSound m ts × (len.0 ≡ table_length ts)
     sound = tested_sound m ts (Ok len) e len refl
-
-    -- a list that is not has few cells
-    pub few_cells : len.0 * m ≤ 4096
-    few_cells = let l = sound_list m ts sound.0 in mul-le-mul {n₂ = 1024} (omega (arith, sound.1, l.few_slots)) l.few_cores
 
     -- a buffer that is too short
     pub short_told : length t < len.0 * m → checked_as (Err Buffer) ≡ check m ts t

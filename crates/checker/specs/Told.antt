@@ -2,13 +2,13 @@
 -- Assumes nothing.
 use Rattle.std.specs.Prelude.{ℕ, zero, suc, pred, ◌/◌, ◌<◌, ◌≡◌, List, ltb, length, Option, None, Some, Result, Ok, Err}
 use Rattle.laws.specs.Lists.{nth, seek}
+use Rattle.tasks.specs.declared.Refusal.{Refusal}
 use Rattle.tasks.specs.declared.Task.{Task}
 use Rattle.tasks.specs.Task.{task}
+use Rattle.tasks.specs.Told.{number_of}
 use Rattle.tasks.specs.Instance.{Instance}
 use Rattle.table.specs.Table.{cells, slot_of, core_of, done}
 use Rattle.table.specs.Fault.{cell_kind, all_needed, Fault, no_fault, in_cell, in_job, fault_if, first_job, Checked, refused, checked}
-use Rattle.tasks.specs.declared.Refusal.{Refusal}
-use Rattle.tasks.specs.Told.{number_of}
 use Rattle.faults.specs.declared.Kind.{Kind}
 use Rattle.faults.specs.Told.{kind_number}
 use Rattle.faults.specs.Tests.{counter_at, count_of, counted_kind}

@@ -7,7 +7,7 @@ ghost use Rattle.table.specs.Fault.{check};
 ghost use Rattle.checker.specs.Checks.{Checkable};
 ghost use Rattle.checker.specs.Told.{fault_as, checked_as, effect_as, effect_of, Counted, CellsTold, job_fault_in};
 
-use faults::Kind;
+use faults::{Counts, Kind};
 use tasks::{Refusal, Slots, Task, Work};
 
 // The first fault of a table: a faulty cell or a faulty job. Slots and jobs count from 0, cores and tasks from 1.
@@ -66,7 +66,7 @@ impl<'a> Table<'a> {
     }
 
     // The first faulty cell, in table order; `counts` has the counts of the jobs after the cells before it.
-    fn first_cell(&self, counts: &mut [u16; 16384]) -> Option<Fault>
+    fn first_cell(&self, counts: &mut Counts) -> Option<Fault>
         requires { Counted (instance_for self.now) (nth self.now.cells.now) 0 counts.old }
         ensures { CellsTold (instance_for self.now) (nth self.now.cells.now) result counts.new }
     {
@@ -92,7 +92,7 @@ impl<'a> Table<'a> {
     }
 
     // The first faulty job, by task and job number.
-    fn first_job(&self, counts: &[u16; 16384]) -> Option<Fault>
+    fn first_job(&self, counts: &Counts) -> Option<Fault>
         ensures { fault_as result ≡ job_fault_in counts.now self.now.len.0 self.now.tasks.now }
     {
         for (place, task) in self.tasks.iter().enumerate() {
@@ -125,7 +125,7 @@ pub fn check_table(tasks: &[Task], m: u8, table: &[u8]) -> Result<Option<Fault>,
         m,
         cells: table,
     };
-    let mut counts = [0; 16384];
+    let mut counts: Counts = [0; 16384];
     if let Some(fault) = table.first_cell(&mut counts) {
         return Ok(Some(fault));
     }

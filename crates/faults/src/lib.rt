@@ -32,7 +32,10 @@ impl From<Kind> for u8 {
 
 // The count of a job of which a cell was not needed. A number and no Option: the counts lie on the stack of a board, where 16384
 // Options would take twice the room.
-const UNNEEDED: u16 = 65535;
+const UNNEEDED: u16 = u16::MAX;
+
+// The counts of all jobs, each at its counter.
+pub type Counts = [u16; 16384];
 
 // Whether a task stands on none of the earlier cores of the slot that begins at cell `first`.
 pub fn free(table: &[u8], first: usize, core: u8, task: u8) -> bool
@@ -95,7 +98,7 @@ fn test_count(work: Work, count: u16) -> Result<(), Kind>
 
 // The test of a job of the task at a place of the list.
 #[tactic(auto, unfolding(crate::specs::Tests::counted_kind))]
-pub fn test_job(counts: &[u16; 16384], place: u8, work: Work, job: u16) -> Result<(), Kind>
+pub fn test_job(counts: &Counts, place: u8, work: Work, job: u16) -> Result<(), Kind>
     requires { (place < 16) × (job < 1024) }
     ensures { kind_told result ≡ counted_kind counts.now place work.0 job }
 {
@@ -103,7 +106,7 @@ pub fn test_job(counts: &[u16; 16384], place: u8, work: Work, job: u16) -> Resul
 }
 
 // The first faulty job of the task at a place of the list, and the kind of its fault.
-pub fn faulty_job(counts: &[u16; 16384], place: u8, work: Work, jobs: u16) -> Option<(u16, Kind)>
+pub fn faulty_job(counts: &Counts, place: u8, work: Work, jobs: u16) -> Option<(u16, Kind)>
     requires { (place < 16) × (jobs ≤ 1024) }
     ensures { job_told result ≡ first_fault jobs (counted_kind counts.now place work.0) }
 {
