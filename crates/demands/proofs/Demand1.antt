@@ -29,6 +29,8 @@ use Rattle.table.specs.Fault.{Fault, no_fault, in_cell, in_job, fault, Checked, 
 use Rattle.rules.specs.Search.{Searched, search_refusal, search}
 use Rattle.rules.proofs.Told.{refused_told}
 use Rattle.rules.proofs.Demand2.{searches}
+use Rattle.search.specs.declared.Answer.{Answer}
+use Rattle.search.specs.Told.{searched_as}
 use Rattle.search.proofs.Calls.{Search}
 use Rattle.checker.specs.declared.Fault.{Fault as FaultTold}
 use Rattle.checker.specs.Told.{checked_as}
@@ -381,30 +383,30 @@ module _ (m : ℕ) (ts : List Task) (e : ℕ) (t : List ℕ) where
   search_room l (short s a x) = absurd (omega (arith, l, x, own_cells m ts (list_is m ts s)))
   search_room l (none s a b) = omega arith
 
-pub plan_refuses : (ts : List Task) (m e b : ℕ) (t : List ℕ) (r : Searched) → Search ts m e b t r → PlanRefuses ts m e t r
-plan_refuses ts m e b t r call = record {
+pub plan_refuses : (ts : List Task) (m e b : ℕ) (t : List ℕ) (r : Result Answer Refusal) (t' : List ℕ) → Search ts m e b t r t' → PlanRefuses ts m e t (searched_as r t')
+plan_refuses ts m e b t r t' call = record {
   not_refused = (only_none, λ h. ends (search_is m ts e t h));
   exact = λ k x. (λ h. exactly k x h.0 h.1, λ h. (ap (λ s. s.verdict) (told x h), search_most m ts e t h));
   no_tries = λ x h. ap (λ s. s.tries) (told x h);
   untouched = λ x h. ap (λ s. s.buffer) (told x h);
 }
   where
-    told : {k : ℕ} → k ≢ 0 → OfSearch m ts e t k → r ≡ record { verdict = k; tries = 0; buffer = t }
+    told : {k : ℕ} → k ≢ 0 → OfSearch m ts e t k → searched_as r t' ≡ record { verdict = k; tries = 0; buffer = t }
     told x h = call ∙ refused_told m ts e b t _ (search_is m ts e t h) x
 
     -- a call that is not refused ends in 0, 13 or 14
-    ends : search_refusal m ts e (length t) ≡ 0 → (r.verdict ≡ 0) ⊎ ((r.verdict ≡ 13) ⊎ (r.verdict ≡ 14))
+    ends : search_refusal m ts e (length t) ≡ 0 → ((searched_as r t').verdict ≡ 0) ⊎ (((searched_as r t').verdict ≡ 13) ⊎ ((searched_as r t').verdict ≡ 14))
     ends z = let h = search_none m ts e t (search_of m ts e t) z in subst (λ s. (s.verdict ≡ 0) ⊎ ((s.verdict ≡ 13) ⊎ (s.verdict ≡ 14))) (sym call) (searches m ts e b t h.0 h.1 h.2).one_of_three
 
     -- and the other way
-    only_none : (r.verdict ≡ 0) ⊎ ((r.verdict ≡ 13) ⊎ (r.verdict ≡ 14)) → OfSearch m ts e t 0
+    only_none : ((searched_as r t').verdict ≡ 0) ⊎ (((searched_as r t').verdict ≡ 13) ⊎ ((searched_as r t').verdict ≡ 14)) → OfSearch m ts e t 0
     only_none v = elim (ℕ_discrete (search_refusal m ts e (length t)) 0) [
       | yes z ↦ subst (OfSearch m ts e t) z (search_of m ts e t)
       | no y ↦ (let q = ap (λ s. s.verdict) (told y (search_of m ts e t)) in let l = search_most m ts e t (search_of m ts e t) in
           ⊎_elim (λ z. absurd (y (sym q ∙ z))) (⊎_elim (λ z. absurd (omega (arith, q, z, l))) (λ z. absurd (omega (arith, q, z, l)))) v)
     ]
 
-    exactly : (k : ℕ) → k ≢ 0 → r.verdict ≡ k → k ≤ 10 → OfSearch m ts e t k
+    exactly : (k : ℕ) → k ≢ 0 → (searched_as r t').verdict ≡ k → k ≤ 10 → OfSearch m ts e t k
     exactly k x v l = elim (ℕ_discrete (search_refusal m ts e (length t)) 0) [
       | no y ↦ subst (OfSearch m ts e t) (sym (ap (λ s. s.verdict) (told y (search_of m ts e t))) ∙ v) (search_of m ts e t)
       | yes z ↦ ⊎_elim (λ q. absurd (x (sym v ∙ q))) (⊎_elim (λ q. absurd (omega (arith, v, q, l))) (λ q. absurd (omega (arith, v, q, l)))) (ends z)

@@ -18,6 +18,8 @@ use Rattle.table.specs.Table.{cells, Valid}
 use Rattle.table.proofs.TableLaws.{serves_none}
 use Rattle.rules.specs.Search.{Searched, walked, search}
 use Rattle.rules.proofs.Demand2.{Searches, searches}
+use Rattle.search.specs.declared.Answer.{Answer}
+use Rattle.search.specs.Told.{searched_as}
 use Rattle.search.proofs.Calls.{Search}
 use Rattle.checker.specs.declared.Fault.{Fault}
 use Rattle.checker.specs.Told.{checked_as}
@@ -45,9 +47,9 @@ pub record WritesAnswer (m : ℕ) (ts : List Task) (s : Searched) (out : List �
 
 -- ---- theorems
 -- a call of `search` on a sound list, by either engine, with any limit, into a buffer that is long enough
-pub plans : (ts : List Task) (m e b : ℕ) (t : List ℕ) (r : Searched) → Search ts m e b t r → IsSound m ts → e ≤ 1 → cells (own_instance m ts) ≤ length t
-    → Searches (own_instance m ts) (walked e (own_instance m ts)) b t r
-plans ts m e b t r call sound engine room = subst (Searches (own_instance m ts) (walked e (own_instance m ts)) b t) (sym call) (searches m ts e b t sound engine room)
+pub plans : (ts : List Task) (m e b : ℕ) (t : List ℕ) (r : Result Answer Refusal) (t' : List ℕ) → Search ts m e b t r t' → IsSound m ts → e ≤ 1 → cells (own_instance m ts) ≤ length t
+    → Searches (own_instance m ts) (walked e (own_instance m ts)) b t (searched_as r t')
+plans ts m e b t r t' call sound engine room = subst (Searches (own_instance m ts) (walked e (own_instance m ts)) b t) (sym call) (searches m ts e b t sound engine room)
 
 -- a call of `check_table`, for every list, every number of cores and every table
 pub checks : (ts : List Task) (m : ℕ) (t : List ℕ) (r : Result (Option Fault) Refusal) → Checks ts m t r → Tells m ts t (checked_as r)

@@ -89,15 +89,31 @@ tries_most m ts e b t = elim (ℕ_discrete (search_refusal m ts e (length t)) 0)
       (lt_or_ge b (tries (walked e (own_instance m ts)))))
 ]
 
--- a search is a call of `plan`; its answer has the verdict above the tries
+-- what a search's definition tells is told of one of the code's answers
+answer_there : (m : ℕ) (ts : List Task) (e b : ℕ) (t : List ℕ) → (a : Result Answer Refusal) × Search ts m e b t a (search m ts e b t).buffer
+answer_there m ts e b t = elim (ℕ_discrete (search_refusal m ts e (length t)) 0) [
+  | no x ↦ (
+      let h = refused_told m ts e b t (search_refusal m ts e (length t)) refl x in
+      let n = named (search_refusal m ts e (length t)) x (omega (arith, search_most m ts e t (search_of m ts e t))) in
+      (Err (refusal_from (search_refusal m ts e (length t))), rw (h, n) refl))
+  | yes z ↦ (
+      let h = search_none m ts e t (search_of m ts e t) z in
+      let v = (searches m ts e b t h.0 h.1 h.2).one_of_three in
+      ⊎_elim (λ q. (Ok (record { outcome = Found; tries = (search m ts e b t).tries }), rw q refl))
+      (⊎_elim (λ q. (Ok (record { outcome = NoTable; tries = (search m ts e b t).tries }), rw q refl)) (λ q. (Ok (record { outcome = Stopped; tries = (search m ts e b t).tries }), rw q refl))) v)
+]
+
+-- a search is a call of `search`; its answer has the verdict above the tries
 pub from_search : (ts : List Task) (m e b : ℕ) (t : List ℕ) (r : ℕ) (t' : List ℕ) → XiphomeraSearch ts m e b t r t' → b < 2 ^ 32
-    → (a : Answer) × Plan ts m e b t a t' × (r / 2 ^ 32 ≡ a.verdict) × (r % 2 ^ 32 ≡ a.tries)
-from_search ts m e b t r t' call l = (
-  record { verdict = s.verdict; tries = s.tries },
-  (λ i. record { verdict = s.verdict; tries = s.tries; buffer = call.left i }),
-  ap (λ x. x / 2 ^ 32) call.answer ∙ digits_div s.verdict few,
-  ap (λ x. x % 2 ^ 32) call.answer ∙ digits_mod s.verdict few,
-)
+    → (a : Result Answer Refusal) × Search ts m e b t a t' × (r / 2 ^ 32 ≡ (searched_as a t').verdict) × (r % 2 ^ 32 ≡ (searched_as a t').tries)
+from_search ts m e b t r t' call l =
+    let (a, is) = answer_there m ts e b t in
+    let h : searched_as a t' ≡ s = ap (searched_as a) call.left ∙ is in (
+      a,
+      h,
+      ap (λ x. x / 2 ^ 32) call.answer ∙ digits_div s.verdict few ∙ sym (ap (λ s. s.verdict) h),
+      ap (λ x. x % 2 ^ 32) call.answer ∙ digits_mod s.verdict few ∙ sym (ap (λ s. s.tries) h),
+    )
   where
     s : Searched
     s = search m ts e b t
@@ -178,8 +194,11 @@ start_reads p ts m t tick r cells p' call = halves r cells _ call.0 (omega (arit
     none p (suc k) = refl
 
 pub from_start : (p : Player) (ts : List Task) (m : ℕ) (t : List ℕ) (tick r : ℕ) (cells : List ℕ) (p' : Player) → XiphomeraStart p ts m t tick r cells p'
-    → (s : Answered) × Start p ts m t tick s p' × Reads r cells s
-from_start p ts m t tick r cells p' call = (started m ts t tick, (refl, call.1), start_reads p ts m t tick r cells p' call)
+    → (a : Result Shown Refusal) × Start p ts m t tick (answered_as a) p' × Reads r cells (answered_as a)
+unfolding started
+from_start p ts m t tick r cells p' call =
+    let (a, e) = shown_there (record { verdict = 0; cells = cells_of (record_of m ts t tick); missed = 0 }) refl (start_refusal m ts t) (start_most m ts t) in
+    (a, (e, call.1), subst (Reads r cells) (sym e) (start_reads p ts m t tick r cells p' call))
 
 -- a step shows what `step` shows
 step_reads : (p : Player) (tick r : ℕ) (cells : List ℕ) (p' : Player) → XiphomeraStep p tick r cells p' → Reads r cells (stepped p tick)
@@ -193,8 +212,9 @@ step_reads p tick r cells p' call = halves r cells _ call.0 (few (step_refusal p
     few zero = omega arith
     few (suc k) = omega arith
 
-pub from_step : (p : Player) (tick r : ℕ) (cells : List ℕ) (p' : Player) → XiphomeraStep p tick r cells p' → (s : Answered) × Step p tick s p' × Reads r cells s
-from_step p tick r cells p' call = (stepped p tick, (refl, call.1), step_reads p tick r cells p' call)
+pub from_step : (p : Player) (tick r : ℕ) (cells : List ℕ) (p' : Player) → XiphomeraStep p tick r cells p'
+    → (a : Result Shown Refusal) × Step p tick (answered_as a) p' × Reads r cells (answered_as a)
+from_step p tick r cells p' call = let (a, e) = step_there p tick in (a, (e, call.1), subst (Reads r cells) (sym e) (step_reads p tick r cells p' call))
 
 -- a board's program
 module _ (ts : List Task) (m : ℕ) (t : List ℕ) (p : Player) (tick : ℕ → ℕ) (n : ℕ) (answer : ℕ → ℕ) (cells : ℕ → List ℕ) (left : ℕ → Player)
