@@ -13,7 +13,7 @@ use lib.ListN.{length, set}
 use borrow.Author.Tests.{eq-eqb, ne_eqb}
 use Rattle.laws.specs.Sum.{gate}
 use Rattle.laws.specs.Lists.{nth, filled}
-use Rattle.laws.proofs.ListLaws.{seek_is, seek_none, filled_length, filled_at, filled_before, filled_next}
+use Rattle.laws.proofs.ListLaws.{seek_is, seek_none, filled_length, filled_at, filled_before, filled_behind, filled_next}
 use Rattle.tasks.specs.declared.Task.{Task}
 use Rattle.windows.specs.declared.InSlot.{InSlot}
 use Rattle.windows.specs.Answer.{Fit, in_slot}
@@ -49,6 +49,13 @@ module _ (w n : ℕ) (g : ℕ → ℕ → ℕ) (s : List ℕ) where
         let below : suc t * w ≤ k * w = mul-le-mul {n₂ = k} {m₂ = w} (omega arith) (omega arith) in
         filled_before (in_rows w n g k s) (k * w) n (g k) (t * w + v) (omega (arith, suc-mul t w)) ∙ rows_at k t v (omega arith) lv ln (omega (arith, suc-mul k w))
   ]
+
+  -- what stands behind the rows
+  pub rows_behind : (k i : ℕ) → k * w ≤ i → n ≤ w → nth (in_rows w n g k s) i ≡ nth s i
+  unfolding in_rows
+  rows_behind zero i l ln = refl
+  rows_behind (suc k) i l ln =
+      filled_behind (in_rows w n g k s) (k * w) n (g k) i (omega (arith, suc-mul k w)) ∙ rows_behind k i (omega (arith, suc-mul k w)) ln
 
 -- ---- places stored one after the other, from the first on
 pub next_stored : (s : List ℕ) (n : ℕ) (g : ℕ → ℕ) (r : List ℕ) (x : ℕ) → r ≡ filled s 0 n g → x ≡ g n → set r n x ≡ filled s 0 (n + 1) g

@@ -1,58 +1,64 @@
 -- What the search puts into the counters, what it walks over, and what it tells.
 -- Assumes nothing.
-use Rattle.std.specs.Prelude.{ℕ, ◌-◌, ◌%◌, Bool, cond, List, leb, replicate}
-use Rattle.laws.specs.Lists.{nth, filled}
+use Rattle.std.specs.Prelude.{ℕ, suc, List, length, take, replicate, Result, Ok, Err}
 use Rattle.tasks.specs.declared.Task.{Task}
-use Rattle.tasks.specs.declared.TaskList.{TaskList}
-use Rattle.tasks.specs.Refusal.{unless}
+use Rattle.tasks.specs.declared.Refusal.{Refusal}
+use Rattle.tasks.specs.Task.{task}
+use Rattle.tasks.specs.Told.{number_of}
 use Rattle.tasks.specs.Instance.{own_instance}
 use Rattle.table.specs.Table.{cells}
 use Rattle.rules.specs.Walk.{limited}
 use Rattle.rules.specs.Search.{Searched, walked, search_told}
 use Rattle.grid.specs.Grid.{sets_on}
-use Rattle.walk.specs.Machine.{End, Found, NoneFound, Stopped, Ran}
-use Rattle.fill.specs.Grid.{grid_of}
+use Rattle.walk.specs.declared.End.{End}
+use Rattle.walk.specs.declared.End.TheVariants as end
+use Rattle.walk.specs.declared.Walked.{Walked}
+use Rattle.walk.specs.Machine.{Ran}
+use Rattle.fill.specs.Grid.{in_rows, grid_of}
+use Rattle.search.specs.declared.Outcome.{Outcome}
+use Rattle.search.specs.declared.Outcome.TheVariants.{Found, NoTable, Stopped}
 use Rattle.search.specs.declared.Answer.{Answer}
 
--- the work of the job at a counter
-abbrev pub work_at : List ℕ → ℕ → ℕ
-work_at work x = nth work (x % 16)
+-- l with the work of each task at the counters of its first k jobs, sixteen counters a job number
+abbrev pub left_in : List Task → ℕ → List ℕ → List ℕ
+left_in ts k = in_rows 16 (length ts) (λ job v. (task ts (suc v)).work.0) k
 
 -- the counters of a list: each job's whole work
-unfoldable pub left_of : TaskList → List ℕ
-left_of list = filled (replicate 16385 0) 0 16384 (work_at list.work)
+unfoldable pub left_of : List Task → List ℕ
+left_of ts = left_in ts 1024 (replicate 16385 0)
 
--- what a walk over the grid and the counters of a list answers and leaves: from u tries and the cells t, the number r and the cells t'
-pub record ListWalked (list : TaskList) (m e L u : ℕ) (t : List ℕ) (r : ℕ) (t' : List ℕ) : Type 0 where
+-- what a walk over the grid and the counters of a list answers and leaves: from u tries and the cells t, the answer r and the cells t'
+pub record ListWalked (ts : List Task) (m e L u : ℕ) (t : List ℕ) (r : Walked) (t' : List ℕ) : Type 0 where
   pub left : List ℕ
-  pub ran : Ran (grid_of list m e L (replicate 17499 0)) 0 (sets_on (grid_of list m e L (replicate 17499 0)) (left_of list) 0) t (left_of list) u r t' left
+  pub ran : Ran (grid_of ts m e L) 0 0 (sets_on (grid_of ts m e L) (left_of ts) 0) t (left_of ts) u r.end t' left r.tries
 
--- 5.1, 5.2, 5.3: the verdict of a walk that ends so
-unfoldable pub verdict_of : End → ℕ
+-- how a search ends whose walk ends so
+abbrev pub outcome_of : End → Outcome
+outcome_of end.Found = Found
+outcome_of end.NoneFound = NoTable
+outcome_of end.Stopped = Stopped
+
+-- 5.1, 5.2, 5.3: the verdict of a search that ends so
+abbrev pub verdict_of : Outcome → ℕ
 verdict_of Found = 0
-verdict_of NoneFound = 13
+verdict_of NoTable = 13
 verdict_of Stopped = 14
 
--- the answer of a walk that ends so with k tries, counted from u on
-abbrev pub walk_answer : End → ℕ → ℕ → Answer
-walk_answer e k u = record { verdict = verdict_of e; tries = k - u }
-
--- what is left in cell i of the caller's buffer: the table's, if one was found, else 0
-unfoldable pub cell_left : Bool → List ℕ → ℕ → ℕ
-cell_left found t i = cond found (nth t i) 0
-
--- 5.8: a refusal reports 0 tries
-abbrev pub refused_answer : ℕ → Answer
-refused_answer r = record { verdict = r; tries = 0 }
-
--- 5.5: after 1 to 8: 9 engine not 0 or 1; 10 buffer without room for n cells
-unfoldable pub call_refusal : ℕ → ℕ → ℕ → ℕ
-call_refusal e room n = unless (leb e 1) 9 (unless (leb n room) 10 0)
+-- what is left in the first n cells of the caller's buffer: the table, if one was found, else 0
+unfoldable pub cells_left : Outcome → ℕ → List ℕ → List ℕ
+cells_left Found n t = take n t
+cells_left NoTable n t = replicate n 0
+cells_left Stopped n t = replicate n 0
 
 -- what the search tells where nothing is refused
 unfoldable pub walk_told : ℕ → List Task → ℕ → ℕ → List ℕ → Searched
 walk_told m ts e b buffer = search_told (cells (own_instance m ts)) buffer (limited b (walked e (own_instance m ts)))
 
--- the answer and the buffer, as the definition has them
-abbrev pub searched_as : Answer → List ℕ → Searched
-searched_as r t = record { verdict = r.verdict; tries = r.tries; buffer = t }
+-- an answer and the buffer, as the definition has them
+abbrev pub answered_as : Answer → List ℕ → Searched
+answered_as r t = record { verdict = verdict_of r.outcome; tries = r.tries; buffer = t }
+
+-- 5.8: a refusal reports its number and 0 tries
+abbrev pub searched_as : Result Answer Refusal → List ℕ → Searched
+searched_as (Ok r) t = answered_as r t
+searched_as (Err r) t = record { verdict = number_of r; tries = 0; buffer = t }

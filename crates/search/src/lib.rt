@@ -1,159 +1,139 @@
-// The search: refuses, fills the walk's arrays once, walks, and fills or clears the caller's buffer.
+// The search: refuses, fills the walk's grid and the work left once, walks, and fills or clears the caller's buffer.
 #![tactic(auto)]
 
-ghost use Rattle.std.specs.Prelude.{◌≡◌, ℕ, ◌*◌, ◌%◌, ◌≤◌, ◌<◌, length};
-ghost use Rattle.laws.specs.Lists.{filled};
-ghost use Rattle.tasks.specs.Task.{rows};
+ghost use Rattle.std.specs.Prelude.{◌≡◌, ◌*◌, ◌≤◌, length};
+ghost use Rattle.laws.specs.Lists.{over};
 ghost use Rattle.tasks.specs.Refusal.{IsSound, table_length};
 ghost use Rattle.rules.specs.Search.{search as search_of};
-ghost use Rattle.walk.specs.Machine.{End, walk_number};
-ghost use Rattle.search.specs.Told.{work_at, ListWalked, walk_answer, cell_left, refused_answer, call_refusal, walk_told, searched_as};
+ghost use Rattle.fill.specs.Engine.{engine_of};
+ghost use Rattle.search.specs.Told.{left_in, ListWalked, cells_left, walk_told, answered_as, searched_as};
 
-use tasks::{Slots, Soundness, TaskList};
+use fill::Engine;
+use tasks::{Refusal, Slots, Task};
+use walk::{End, FULL, Walked};
 
-// Each job's work, sixteen counters a job number.
-fn fill_left(left: &mut [u16; 16385], work: [u16; 16])
-    ensures { left.new ≡ filled left.old 0 16384 (work_at work) }
-{
-    let mut x: usize = 0;
-    while x < 16384 {
-        left[x] = work[x % 16];
-        x += 1;
+// How a search ends, by its verdict (RULES 5.1 to 5.3).
+#[derive(Clone, Copy, PartialEq, Eq)]
+pub enum Outcome {
+    Found = 0,
+    NoTable = 13,
+    Stopped = 14,
+}
+
+impl From<Outcome> for u8 {
+    ghost use Rattle.search.specs.Told.{verdict_of};
+    ghost use Rattle.std.specs.Prelude.{◌≡◌};
+
+    ghost from_gives = { λ outcome number. number ≡ verdict_of outcome };
+
+    fn from(outcome: Outcome) -> u8 {
+        outcome as u8
     }
 }
 
-// What is left in a cell of the caller's buffer: the table's, if one was found, else 0.
-fn cell_left(found: bool, cells: &[u8; 4096], i: usize) -> u8
-    requires { i < 4096 }
-    ensures { result ≡ cell_left found cells.now i }
-{
-    if found { cells[i] } else { 0 }
-}
+impl From<End> for Outcome {
+    ghost use Rattle.search.specs.Told.{outcome_of};
+    ghost use Rattle.std.specs.Prelude.{◌≡◌};
 
-// The first n cells of the caller's buffer become the table, if one was found, else 0.
-fn hand_over(table: &mut [u8], n: usize, found: bool, cells: &[u8; 4096])
-    requires { (n ≤ 4096) × (n ≤ length table.old) }
-    ensures { table.new ≡ filled table.old 0 n (cell_left found cells.now) }
-{
-    let mut i: usize = 0;
-    while i < n {
-        table[i] = cell_left(found, cells, i);
-        i += 1;
+    ghost from_gives = { λ end outcome. outcome ≡ outcome_of end };
+
+    fn from(end: End) -> Outcome {
+        match end {
+            End::Found => Outcome::Found,
+            End::NoneFound => Outcome::NoTable,
+            End::Stopped => Outcome::Stopped,
+        }
     }
 }
 
-// A verdict and the tries.
-#[derive(Clone, Copy)]
+// An outcome and the tries.
+#[derive(Clone, Copy, PartialEq, Eq)]
 pub struct Answer {
-    pub verdict: u8,
+    pub outcome: Outcome,
     pub tries: u32,
 }
 
-// How a walk ends (RULES 5.1 to 5.3).
-const FOUND: u8 = 0;
-
-const NONE: u8 = 13;
-
-const STOPPED: u8 = 14;
-
-// What the walk's number tells, with the tries counted from `start` on.
-#[tactic(auto, using(crate::proofs::ToldLaws::tells_none, crate::proofs::ToldLaws::tells_found, crate::proofs::ToldLaws::tells_stopped))]
-fn walk_answer(w: u64, start: u32) -> Answer
-    requires { start ≤ w % 4294967296 }
-    ensures { (e : End) (k : ℕ) → w ≡ walk_number e k → k < 4294967296 → result ≡ walk_answer e k start }
+// Each job's work, sixteen counters a job number.
+#[tactic(auto, using(fill::proofs::FillLaws::rows_none, fill::proofs::FillLaws::rows_next, laws::proofs::ListLaws::filled_none, laws::proofs::ListLaws::filled_next))]
+fn fill_left(left: &mut [u16; 16385], tasks: &[Task])
+    requires { length tasks.now ≤ 16 }
+    ensures { left.new ≡ left_in tasks.now 1024 left.old }
 {
-    let tries = (w % walk::IF_FOUND) as u32 - start;
-    if w < walk::IF_FOUND {
-        return Answer {
-            verdict: NONE,
-            tries,
-        };
-    }
-    if w < walk::IF_STOPPED {
-        return Answer {
-            verdict: FOUND,
-            tries,
-        };
-    }
-    Answer {
-        verdict: STOPPED,
-        tries,
+    for job in 0..1024 {
+        for (v, task) in tasks.iter().enumerate() {
+            left[job * 16 + v] = task.work.0;
+        }
     }
 }
 
 // The walk over the cells of a sound list, from `start` tries on.
 fn walk_cells(
-    list: TaskList,
+    tasks: &[Task],
     m: u8,
-    engine: u8,
+    engine: Engine,
     len: Slots,
     start: u32,
     cells: &mut [u8; 4096],
-) -> u64
-    requires { IsSound m (rows list) × (len.0 ≡ table_length (rows list)) }
-    ensures { ListWalked list m engine len.0 start cells.old result cells.new }
+) -> Walked
+    requires { IsSound m tasks.now × (len.0 ≡ table_length tasks.now) }
+    ensures { ListWalked tasks.now m (engine_of engine) len.0 start cells.old result cells.new }
 {
-    let mut grid = [0; 17499];
+    let grid = fill::fill_grid(tasks, m, engine, len);
     let mut left = [0; 16385];
-    fill::fill_grid(&mut grid, list, m, engine, len);
-    let work = list.work;
-    fill_left(&mut left, work);
+    fill_left(&mut left, tasks);
     walk::walk(cells, &grid, &mut left, start)
 }
 
+// The first n cells of the caller's buffer become the table, if one was found, else 0.
+fn hand_over(table: &mut [u8], n: usize, outcome: Outcome, cells: &[u8; 4096])
+    requires { (n ≤ 4096) × (n ≤ length table.old) }
+    ensures { table.new ≡ over (cells_left outcome n cells.now) table.old }
+{
+    match outcome {
+        Outcome::Found => table[..n].copy_from_slice(&cells[..n]),
+        Outcome::NoTable | Outcome::Stopped => table[..n].fill(0),
+    }
+}
+
 // The walk over a sound list, and what it leaves in the buffer.
-fn walk_list(list: TaskList, m: u8, engine: u8, limit: u32, len: Slots, table: &mut [u8]) -> Answer
-    requires { IsSound m (rows list) × (len.0 ≡ table_length (rows list)) × (len.0 * m ≤ length table.old) }
-    ensures { searched_as result table.new ≡ walk_told m (rows list) engine limit table.old }
+fn walk_list(
+    tasks: &[Task],
+    m: u8,
+    engine: Engine,
+    limit: u32,
+    len: Slots,
+    table: &mut [u8],
+) -> Answer
+    requires { IsSound m tasks.now × (len.0 ≡ table_length tasks.now) × (len.0 * m ≤ length table.old) }
+    ensures { answered_as result table.new ≡ walk_told m tasks.now (engine_of engine) limit table.old }
 {
     let mut cells = [0; 4096];
-    let start = walk::FULL - limit;
-    let w = walk_cells(list, m, engine, len, start, &mut cells);
-    let answer = walk_answer(w, start);
-    let n = len.0 as usize * m as usize;
-    let found = answer.verdict == FOUND;
-    hand_over(table, n, found, &cells);
-    answer
-}
-
-// A refusal reports 0 tries.
-fn refused(number: u8) -> Answer
-    ensures { result ≡ refused_answer number }
-{
+    let start = FULL - limit;
+    let walked = walk_cells(tasks, m, engine, len, start, &mut cells);
+    let n = usize::from(len.0) * usize::from(m);
+    let outcome = Outcome::from(walked.end);
+    hand_over(table, n, outcome, &cells);
     Answer {
-        verdict: number,
-        tries: 0,
+        outcome,
+        tries: walked.tries - start,
     }
-}
-
-// The refusal of an engine, or of a buffer too short for n cells; or 0.
-#[tactic(auto, using(crate::proofs::AnswerLaws::engine_refused, crate::proofs::AnswerLaws::buffer_refused, crate::proofs::AnswerLaws::none_refused))]
-fn call_refusal(engine: u8, room: usize, n: usize) -> u8
-    ensures { result ≡ call_refusal engine room n }
-{
-    if 1 < engine {
-        return tasks::BAD_ENGINE;
-    }
-    if room < n {
-        return tasks::BAD_BUFFER;
-    }
-    0
 }
 
 // The search of a list on m cores, by an engine, with a limit of tries, into the caller's buffer.
-pub fn search(list: TaskList, m: u8, engine: u8, limit: u32, table: &mut [u8]) -> Answer
-    ensures { searched_as result table.new ≡ search_of m (rows list) engine limit table.old }
+pub fn search(
+    tasks: &[Task],
+    m: u8,
+    engine: u8,
+    limit: u32,
+    table: &mut [u8],
+) -> Result<Answer, Refusal>
+    ensures { searched_as result table.new ≡ search_of m tasks.now engine limit table.old }
 {
-    let soundness = tasks::test_list(list, m);
-    match soundness {
-        Soundness::Refused(number) => refused(number),
-        Soundness::Sound(len) => {
-            let number = call_refusal(engine, table.len(), len.0 as usize * m as usize);
-            if number == 0 {
-                walk_list(list, m, engine, limit, len, table)
-            } else {
-                refused(number)
-            }
-        }
+    let len = tasks::test_list(tasks, m)?;
+    let engine = Engine::try_from(engine)?;
+    let n = usize::from(len.0) * usize::from(m);
+    if table.len() < n {
+        return Err(Refusal::Buffer);
     }
+    Ok(walk_list(tasks, m, engine, limit, len, table))
 }

@@ -1,13 +1,13 @@
--- `search::fill_left` meets its contract. The loop's invariant: the counters passed hold their job's work, and the others are as they were.
+-- `search::fill_left` meets its contract. The loops' invariants: the counters passed hold their job's work, and the others are as they were.
 -- Assumes nothing.
-use Prim.Native.Nat.{◌-◌, ◌≤◌}
-use mathlib.Core.Path.{◌≡◌}
+use Rattle.std.proofs.Common.{◌≡◌, ◌*◌, suc, length}
 use Rattle.laws.specs.Lists.{filled}
-use Rattle.search.specs.Told.{work_at}
+use Rattle.tasks.specs.Task.{task}
+use Rattle.search.specs.Told.{left_in}
 use Rattle.search.proofs.fill_left.Given as goal
 
-abbrev pub invariant-loop-x : goal.invariant-loop-x
-invariant-loop-x l = (l.x ≤ 16384) × (l.left ≡ filled l.initial.left 0 l.x (work_at l.work))
+abbrev pub invariant-loop-job : goal.invariant-loop-job
+invariant-loop-job l = l.left ≡ left_in l.tasks l.job l.fn.left
 
-abbrev pub decreases-loop-x : goal.decreases-loop-x
-decreases-loop-x l = 16384 - l.x
+abbrev pub invariant-loop-v : goal.invariant-loop-v
+invariant-loop-v l = l.left ≡ filled (left_in l.tasks l.job l.fn.left) (l.job * 16) l.v (λ v. (task l.tasks (suc v)).work.0)

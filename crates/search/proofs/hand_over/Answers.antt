@@ -1,17 +1,21 @@
--- `search::hand_over` meets its contract. The loop's invariant: the cells passed are what is to be left, and the others are as they were.
+-- `search::hand_over` meets its contract: the cells are those of the outcome.
 -- Assumes nothing.
-use borrow.Author.Rules.{rules}
-use native.Mathlib.Omega.{arith}
-use lib.ListN.{length-set}
-use Rattle.laws.proofs.ListLaws.{filled_none}
-use Rattle.fill.proofs.FillLaws.{next_stored, all_stored}
+use Rattle.std.proofs.Common.{ap, replicate, ◌∙◌, arith}
+use Rattle.std.proofs.Math.Logic.{⊎_elim}
+use lib.ListN.{length-replicate}
+use lib.Seq.{length-take-le}
+use Rattle.laws.specs.Lists.{over}
+use Rattle.search.specs.Told.{cells_left}
+use Rattle.search.proofs.AnswerLaws.{written}
 use Rattle.search.proofs.hand_over.Goals as goal
 
-pub loop-i-init : goal.loop-i-init
-loop-i-init c = (filled_none _ _ _, search rules, search rules)
+pub returns-in-Found : goal.returns-in-Found
+unfolding cells_left
+returns-in-Found c = rw c.in-Found.is (written _ _ _ _ c.copy_from_slice.ensures.after (length-take-le c.args.n _ (omega (arith, c.requires.0, c.told-cells))))
 
-pub loop-i-preserved : goal.loop-i-preserved
-loop-i-preserved c = (next_stored _ _ _ _ _ c.loop-i.invariant.0 c.cell_left.ensures, search rules, simp length-set (search rules))
-
-pub returns : goal.returns
-returns c = all_stored _ _ _ _ _ _ (omega arith) (omega arith) c.loop-i.invariant.0
+pub returns-in-NoTable : goal.returns-in-NoTable
+unfolding cells_left
+returns-in-NoTable c =
+    let zeros = c.fill.ensures.after (λ y e. e) ∙ ap (λ n. replicate n 0) (length-take-le c.args.n _ c.requires.1) in
+    let cleared = written (replicate c.args.n 0) _ c.args.table.now c.args.n zeros (length-replicate c.args.n 0) in
+    ⊎_elim (λ is. rw is cleared) (λ is. rw is cleared) c.in-NoTable.is

@@ -1,23 +1,31 @@
 -- `search::search` meets its contract: the refusals in the definition's order, and then the walk.
 -- Assumes nothing.
-use native.Mathlib.Omega.{arith}
+use Rattle.std.proofs.Common.{refl, ap₂, ◌*◌, arith}
+use Rattle.std.proofs.lemmas.Result.{err_from_is_err_and}
 use Rattle.tasks.proofs.AnswerLaws.{tested_sound}
-use Rattle.search.proofs.AnswerLaws.{few_cells, list_refused, not_refused, call_refused, walk_answer_lem}
+use Rattle.search.proofs.AnswerLaws.{list_refused, engine_refused, buffer_refused, walk_answer_lem}
 use Rattle.search.proofs.search.Goals as goal
 
-pub overflow_mul-len : goal.overflow_mul-len
-overflow_mul-len c = let h = tested_sound _ _ _ c.test_list-soundness.ensures _ c.in-Sound.is in omega (arith, few_cells _ _ _ h.0 h.1)
+pub returns-in_err-len : goal.returns-in_err-len
+returns-in_err-len c =
+    let p = err_from_is_err_and c.from_residual.result c.from_residual.ensures.1 in
+    rw (p.1, p.2) (list_refused _ _ _ _ _ _ c.in_err-len.ensures)
+
+pub returns-in_err-engine : goal.returns-in_err-engine
+returns-in_err-engine c =
+    let p = err_from_is_err_and c.from_residual-in_err-engine.result c.from_residual-in_err-engine.ensures.1 in
+    rw (p.1, p.2, c.in_err-engine.ensures.0) (engine_refused _ _ _ _ _ _ c.in_ok-len.ensures c.in_err-engine.ensures.1)
+
+pub returns-then-table-n : goal.returns-then-table-n
+returns-then-table-n c =
+    buffer_refused _ _ _ _ _ _ c.in_ok-len.ensures _ c.in_ok-engine.ensures (omega (arith, c.if-table-n.true, ap₂ ◌*◌ c.from.ensures c.from-2.ensures))
 
 pub walk_list-requires : goal.walk_list-requires
 walk_list-requires c =
-    let h = tested_sound _ _ _ c.test_list-soundness.ensures _ c.in-Sound.is in
-    (h.0, h.1, (not_refused _ _ _ _ c.call_refusal-number.ensures c.if-number-eq0.true).1)
+    let sound = tested_sound _ _ _ c.in_ok-len.ensures _ refl in
+    (sound.0, sound.1, omega (arith, c.if-table-n.false, ap₂ ◌*◌ c.from.ensures c.from-2.ensures))
 
-pub returns-in-Refused : goal.returns-in-Refused
-returns-in-Refused c = list_refused _ _ _ _ _ _ _ _ c.test_list-soundness.ensures c.in-Refused.is c.refused.ensures
-
-pub returns-then-number-eq0 : goal.returns-then-number-eq0
-returns-then-number-eq0 c = walk_answer_lem _ _ _ _ _ _ _ c.test_list-soundness.ensures c.in-Sound.is _ c.call_refusal-number.ensures _ c.if-number-eq0.true c.walk_list.ensures
-
-pub returns-else-number-eq0 : goal.returns-else-number-eq0
-returns-else-number-eq0 c = call_refused _ _ _ _ _ _ _ c.test_list-soundness.ensures c.in-Sound.is _ c.call_refusal-number.ensures _ c.if-number-eq0.false c.refused-else-number-eq0.ensures
+pub returns : goal.returns
+returns c =
+    walk_answer_lem _ _ _ _ _ _ c.in_ok-len.ensures _ c.in_ok-engine.ensures (omega (arith, c.if-table-n.false, ap₂ ◌*◌ c.from.ensures c.from-2.ensures))
+    _ c.walk_list.ensures
