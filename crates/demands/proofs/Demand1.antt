@@ -259,6 +259,22 @@ module _ (m : ℕ) (ts : List Task) where
   pub sound_exact : IsSound m ts ↔ OfList m ts 0
   sound_exact = (sound_none, list_is)
 
+-- no refusal of a list is above 8
+task_most : {m : ℕ} {τ : Task} {k : ℕ} → OfTask m τ k → k ≤ 8
+task_most (period x) = omega arith
+task_most (deadline a x) = omega arith
+task_most (work a b x) = omega arith
+task_most (offset a b c x) = omega arith
+task_most (rates a b c d j l x) = omega arith
+task_most (none a b c d h) = omega arith
+
+pub list_most : {m : ℕ} {ts : List Task} {k : ℕ} → OfList m ts k → k ≤ 8
+list_most (count x) = omega arith
+list_most (cores a x) = omega arith
+list_most (of_task a b i l each x h) = task_most h
+list_most (too_long a b each x) = omega arith
+list_most (none a b each h) = omega arith
+
 -- ---- a call of `start`
 module _ (m : ℕ) (ts : List Task) (t : List ℕ) where
   -- a table of a sound list is valid or not
@@ -268,7 +284,7 @@ module _ (m : ℕ) (ts : List Task) (t : List ℕ) where
   of_fault s l (in_job a b c) h = invalid s l (λ v. let z : ◌≡◌ {A = ℕ} 0 1 = cc (h.1 v) in omega arith)
 
   -- the definition's refusal of a start
-  start_of : OfStart m ts t (start_refusal m ts t)
+  pub start_of : OfStart m ts t (start_refusal m ts t)
   unfolding instance_of
   start_of = elim (ℕ_discrete (refusal m ts) 0) [
     | no x ↦ rw (check_refused m ts t x) (of_list x (list_of m ts))
@@ -291,6 +307,13 @@ module _ (m : ℕ) (ts : List Task) (t : List ℕ) where
       wrong (in_job a b c) h = refl
   start_is (none s l v) = ap check_refusal (check_long m ts t (list_is m ts s) l)
       ∙ ap fault_refusal ((names (own_instance m ts) (nth t) (own_regular m ts (list_is m ts s))).none_exact.1 v)
+
+  -- it is not above 11
+  pub start_most : {k : ℕ} → OfStart m ts t k → k ≤ 11
+  start_most (of_list x h) = omega (arith, list_most h)
+  start_most (short s l) = omega arith
+  start_most (invalid s l x) = omega arith
+  start_most (none s l v) = omega arith
 
 -- a refused start
 start_left : (p made : Player) (k : ℕ) → k ≢ 0 → NothingShown (first_shown made k) p (record_or k made p)
@@ -328,22 +351,6 @@ pub own_cells : (m : ℕ) (ts : List Task) → IsSound m ts → cells (own_insta
 unfolding instance_of
 own_cells m ts sound = let s = sound_list m ts sound in mul-le-mul {n₂ = 1024} {m₂ = 4} s.few_slots s.few_cores
 
--- no refusal of a list is above 8
-task_most : {m : ℕ} {τ : Task} {k : ℕ} → OfTask m τ k → k ≤ 8
-task_most (period x) = omega arith
-task_most (deadline a x) = omega arith
-task_most (work a b x) = omega arith
-task_most (offset a b c x) = omega arith
-task_most (rates a b c d j l x) = omega arith
-task_most (none a b c d h) = omega arith
-
-pub list_most : {m : ℕ} {ts : List Task} {k : ℕ} → OfList m ts k → k ≤ 8
-list_most (count x) = omega arith
-list_most (cores a x) = omega arith
-list_most (of_task a b i l each x h) = task_most h
-list_most (too_long a b each x) = omega arith
-list_most (none a b each h) = omega arith
-
 module _ (m : ℕ) (ts : List Task) (e : ℕ) (t : List ℕ) where
   -- the definition's refusal of a search
   pub search_of : OfSearch m ts e t (search_refusal m ts e (length t))
@@ -363,7 +370,7 @@ module _ (m : ℕ) (ts : List Task) (e : ℕ) (t : List ℕ) where
   search_is (none s a b) = sym (or_next_lem 0 (refusal m ts) _ _ (sym (list_is m ts s)) refl refl) ∙ unless_yes _ _ _ (le→leb _ _ a) ∙ unless_yes _ _ _ (le→leb _ _ b)
 
   -- it is not above 10
-  search_most : {k : ℕ} → OfSearch m ts e t k → k ≤ 10
+  pub search_most : {k : ℕ} → OfSearch m ts e t k → k ≤ 10
   search_most (of_list x h) = omega (arith, list_most h)
   search_most (engine s x) = omega arith
   search_most (short s a x) = omega arith
@@ -442,7 +449,7 @@ module _ (p : Player) (tick : ℕ) where
   not_both (position x) u = omega (arith, x, u.in_table)
   not_both (age x) u = omega (arith, x, u.age_le)
 
-  abbrev due : ℕ
+  abbrev pub due : ℕ
   due = step_refusal p.last p.h p.position p.age p.m p.n tick
 
   -- the definition's refusal of a step
@@ -452,7 +459,7 @@ module _ (p : Player) (tick : ℕ) where
   step_is (none u l) = not_refused p.last p.h p.position p.age p.m p.n tick u l
 
   -- and the other way
-  step_of : OfStep p tick due
+  pub step_of : OfStep p tick due
   step_of = ⊎_elim
       (λ x. subst (OfStep p tick) (sym (step_is (spoilt x))) (spoilt x))
       (λ u. ⊎_elim

@@ -4,24 +4,28 @@ use Prim.Native.Nat.{ℕ, zero, suc, ◌/◌, ◌%◌, ◌^◌, ◌≤◌, ◌<�
 use native.Mathlib.Decide.{ℕ_discrete}
 use native.Mathlib.Nat.{mod-lt, div-le_self}
 use native.Mathlib.Omega.{arith}
-use mathlib.Core.Path.{◌≡◌, refl, sym, ap, subst₂, ◌∙◌}
-use mathlib.Core.Logic.{◌↔◌, ⊎_elim}
-use mathlib.Core.List.{List}
+use mathlib.Core.Path.{◌≡◌, refl, sym, ap, subst, subst₂, ◌∙◌}
+use mathlib.Core.Logic.{◌≢◌, ◌↔◌, ⊎_elim}
+use mathlib.Core.List.{List, [], ◌∷◌}
 use lib.Arith.{digits_div, digits_mod}
 use lib.ListN.{length}
 use Rattle.laws.proofs.SumLaws.{lt_or_ge}
 use Rattle.std.specs.Prelude.{Option, None, Result, Ok, Err}
 use Rattle.tasks.specs.declared.Task.{Task}
 use Rattle.tasks.specs.declared.Refusal.{Refusal}
+use Rattle.tasks.specs.declared.Refusal.TheVariants.{Spoilt, Past}
 use Rattle.tasks.specs.Task.{task}
 use Rattle.tasks.specs.Refusal.{refusal, table_length, IsSound}
 use Rattle.tasks.specs.Instance.{Instance, instance_of, own_instance}
+use Rattle.tasks.specs.Told.{number_of}
 use Rattle.tasks.proofs.SoundLaws.{sound_list}
+use Rattle.tasks.proofs.RefusalLaws.{refusal_from, refusal_back, named}
 use Rattle.table.specs.Fault.{Fault, no_fault, in_cell, in_job, Checked, refused, checked, check}
 use Rattle.rules.specs.Walk.{tries}
 use Rattle.rules.specs.Search.{Searched, walked, search_refusal, search}
 use Rattle.rules.proofs.Told.{refused_told}
 use Rattle.rules.proofs.Demand2.{searches}
+use Rattle.search.specs.declared.Outcome.TheVariants.{Found, NoTable, Stopped}
 use Rattle.search.specs.declared.Answer.{Answer}
 use Rattle.search.specs.Told.{searched_as}
 use Rattle.search.proofs.Calls.{Search}
@@ -29,8 +33,8 @@ use Rattle.checker.specs.declared.Fault.{Fault as FaultTold}
 use Rattle.checker.specs.Told.{checked_as}
 use Rattle.checker.specs.Faulty.{Wrong, unknown, closed, unrated, twice, WrongWork, too_little, after_complete}
 use Rattle.checker.proofs.TellLaws.{check_refused}
-use Rattle.checker.proofs.Calls.{Checks, verdict_from, checked_back}
-use Rattle.checker.proofs.Demand2.{tells}
+use Rattle.checker.proofs.Calls.{Checks, answer_from}
+use Rattle.checker.proofs.Demand2.{tells, checked_back}
 use Rattle.clock.specs.declared.Shown.{Shown}
 use Rattle.clock.specs.Clock.{Worked, Answered, answered_as, elapsed_of, elapsed_at, step_refusal, advanced, next_if, next_of, answer_or}
 use Rattle.player.specs.declared.Player.{Player}
@@ -39,7 +43,7 @@ use Rattle.player.proofs.Calls.{Start, Step}
 use Rattle.player.proofs.Demand2.{Run, Plays, Keeps}
 use Rattle.exports.specs.Packed.{packed_as, check_number, ShownNumber}
 use Rattle.exports.proofs.Calls.{XiphomeraSearch, XiphomeraCheck, XiphomeraStart, XiphomeraStep}
-use Rattle.demands.proofs.Demand1.{list_of, list_most, own_cells, search_of, search_none}
+use Rattle.demands.proofs.Demand1.{OfStep, spoilt, past, none, list_of, list_most, own_cells, start_of, start_most, search_of, search_most, search_none, due, step_of}
 use Rattle.demands.proofs.Demand2.{accepts, plays, keeps}
 
 -- ---- words
@@ -171,7 +175,7 @@ module _ (ts : List Task) (m : ℕ) (t : List ℕ) where
   pub from_check : (r : ℕ) → XiphomeraCheck ts m t r → (v : Result (Option FaultTold) Refusal) × Checks ts m t v × ReadsCheck r (checked_as v)
   from_check r call =
       let v = checked_back m ts t in
-      (verdict_from (check m ts t), v, subst₂ ReadsCheck (sym call) (sym v) (check_reads (check m ts t) refl))
+      (answer_from (check m ts t), v, subst₂ ReadsCheck (sym call) (sym v) (check_reads (check m ts t) refl))
 
 -- and answers 0 exactly if `check_table` finds the table valid
 pub from_valid : (ts : List Task) (m : ℕ) (t : List ℕ) (r : ℕ) → XiphomeraCheck ts m t r → (r ≡ 0) ↔ Checks ts m t (Ok None)
@@ -183,6 +187,11 @@ from_valid ts m t r call = (λ z. sym (none (check m ts t) (sym call ∙ z)), λ
     none (checked (in_cell s j k)) z = absurd (omega arith)
     none (checked (in_job i j k)) z = absurd (omega arith)
     none (refused k) z = absurd (omega arith)
+
+-- what is shown, or refused by a number that a refusal has, is told of one of the code's answers
+shown_there : (s : Answered) → s.verdict ≡ 0 → (k : ℕ) → (k ≢ 0 → number_of (refusal_from k) ≡ k) → (a : Result Shown Refusal) × (answered_as a ≡ answer_or k s)
+shown_there s z zero n = (Ok (record { cells = s.cells; missed = s.missed }), ap (λ v. record { verdict = v; cells = s.cells; missed = s.missed }) (sym z))
+shown_there s z (suc k) n = (Err (refusal_from (suc k)), ap (λ v. record { verdict = v; cells = 0 ∷ 0 ∷ 0 ∷ 0 ∷ []; missed = 0 }) (n (λ e. omega (arith, e))))
 
 -- a start shows what `start` shows
 start_reads : (p : Player) (ts : List Task) (m : ℕ) (t : List ℕ) (tick r : ℕ) (cells : List ℕ) (p' : Player) → XiphomeraStart p ts m t tick r cells p' → Reads r cells (started m ts t tick)
@@ -197,7 +206,8 @@ pub from_start : (p : Player) (ts : List Task) (m : ℕ) (t : List ℕ) (tick r 
     → (a : Result Shown Refusal) × Start p ts m t tick (answered_as a) p' × Reads r cells (answered_as a)
 unfolding started
 from_start p ts m t tick r cells p' call =
-    let (a, e) = shown_there (record { verdict = 0; cells = cells_of (record_of m ts t tick); missed = 0 }) refl (start_refusal m ts t) (start_most m ts t) in
+    let (a, e) = shown_there (record { verdict = 0; cells = cells_of (record_of m ts t tick); missed = 0 }) refl (start_refusal m ts t)
+        (λ x. named (start_refusal m ts t) x (omega (arith, start_most m ts t (start_of m ts t)))) in
     (a, (e, call.1), subst (Reads r cells) (sym e) (start_reads p ts m t tick r cells p' call))
 
 -- a step shows what `step` shows
@@ -211,6 +221,24 @@ step_reads p tick r cells p' call = halves r cells _ call.0 (few (step_refusal p
     few : (k : ℕ) → (answer_or (next k).verdict (record { verdict = 0; cells = cells_of (stored p (next k)); missed = (next k).missed })).missed < 2 ^ 32
     few zero = omega arith
     few (suc k) = omega arith
+
+-- the refusal of a step
+step_named : {p : Player} {tick k : ℕ} → OfStep p tick k → k ≢ 0 → number_of (refusal_from k) ≡ k
+step_named (spoilt x) y = ap number_of (refusal_back Spoilt)
+step_named (past u l) y = ap number_of (refusal_back Past)
+step_named (none u l) y = absurd (y refl)
+
+step_there : (p : Player) (tick : ℕ) → (a : Result Shown Refusal) × (answered_as a ≡ stepped p tick)
+unfolding stepped after_step next_of
+step_there p tick = go (due p tick) (step_named (step_of p tick))
+  where
+    next : ℕ → Worked
+    next k = next_if k p.last p.position p.age (advanced p.h p.position p.age p.m tick (elapsed_of tick p.last))
+
+    go : (k : ℕ) → (k ≢ 0 → number_of (refusal_from k) ≡ k)
+        → (a : Result Shown Refusal) × (answered_as a ≡ answer_or (next k).verdict (record { verdict = 0; cells = cells_of (stored p (next k)); missed = (next k).missed }))
+    go zero n = shown_there _ refl 0 n
+    go (suc k) n = shown_there _ refl (suc k) n
 
 pub from_step : (p : Player) (tick r : ℕ) (cells : List ℕ) (p' : Player) → XiphomeraStep p tick r cells p'
     → (a : Result Shown Refusal) × Step p tick (answered_as a) p' × Reads r cells (answered_as a)

@@ -6,7 +6,7 @@ ghost use Rattle.table.specs.Fault.{check as check_of};
 ghost use Rattle.rules.specs.Search.{search as search_of};
 ghost use Rattle.search.specs.Told.{searched_as};
 ghost use Rattle.answer.specs.Write.{Written};
-ghost use Rattle.checker.specs.Checks.{checked_as};
+ghost use Rattle.checker.specs.Told.{checked_as};
 ghost use Rattle.clock.specs.Clock.{answered_as};
 ghost use Rattle.player.specs.Player.{stepped, after_step, started, after_start};
 ghost use Rattle.planner.specs.Answer.{answer_to};
@@ -104,7 +104,8 @@ fn tell(answer: Result<Shown, Refusal>, cells: &mut [u8; 4]) -> u64
 {
     match answer {
         Ok(shown) => {
-            *cells = shown.cells;
+            let four = shown.cells;
+            *cells = four;
             with_verdict(0, shown.missed)
         }
         Err(refusal) => {
