@@ -417,11 +417,7 @@ ran_after_same {slot = slot} {core} {sets} {t} {l} {u} {e} {t'} {l'} {u'} q = su
 pub loans_on : {a b c : Walker} → SameLoans b c → SameLoans a b → SameLoans a c
 loans_on q p = record { grid = q.grid ∙ p.grid; table = q.table ∙ p.table; left = q.left ∙ p.left }
 
--- ---- a value that is there, or not
+-- a value that is there
 pub some_there : {A : Type 0} (o : Option A) → is_some o ≡ true → (x : A) × (o ≡ Some x)
 some_there None h = absurd (true≢false (sym h))
 some_there (Some x) h = (x, refl)
-
-pub none_there : {A : Type 0} (o : Option A) → is_some o ≡ false → o ≡ None
-none_there None h = refl
-none_there (Some x) h = absurd (true≢false h)

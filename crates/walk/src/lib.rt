@@ -57,7 +57,8 @@ impl Walker<'_> {
     fn cell(&mut self, slot: usize, core: usize, sets: u64) -> End
         requires { Stands self.old.grid.now slot core sets }
         ensures same { SameLoans self.old self.new }
-        ensures ran { Ran self.old.grid.now slot core sets self.old.table.now self.old.left.now self.old.tries result self.new.table.now self.new.left.now self.new.tries }
+        ensures ran { Ran self.old.grid.now slot core sets self.old.table.now self.old.left.now self.old.tries
+            result self.new.table.now self.new.left.now self.new.tries }
     {
         let grid = self.grid;
         let first = slot * usize::from(grid.cores);
@@ -102,7 +103,8 @@ impl Walker<'_> {
     fn finish_slot(&mut self, slot: usize, core: usize, sets: u64) -> End
         requires { Stands self.old.grid.now slot core sets }
         ensures same { SameLoans self.old self.new }
-        ensures ran { RanAfter self.old.grid.now slot core sets self.old.table.now self.old.left.now self.old.tries result self.new.table.now self.new.left.now self.new.tries }
+        ensures ran { RanAfter self.old.grid.now slot core sets self.old.table.now self.old.left.now self.old.tries
+            result self.new.table.now self.new.left.now self.new.tries }
     {
         if core + 1 < usize::from(self.grid.cores) {
             return self.cell(slot, core + 1, sets);

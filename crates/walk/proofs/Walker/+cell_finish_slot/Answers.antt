@@ -3,11 +3,12 @@
 use Prim.Native.Nat.{◌*◌}
 use native.Mathlib.Omega.{arith}
 use mathlib.Core.Path.{refl, sym, ap, ◌∙◌}
+use Rattle.std.proofs.option.Match.{None-if_not_some}
 use Rattle.grid.proofs.ReadLaws.{starves_tells}
 use Rattle.walk.specs.Machine.{cells_left}
 use mathlib.Core.Logic.{⊎_elim}
 use Rattle.walk.proofs.GiveBackLaws.{found_apart, stopped_apart}
-use Rattle.walk.proofs.TurnLaws.{begins, task_in, task_few, rises, passes, backs, ends, stops, idle_barred, idle_stops, idle_starves, idles, stands_without, stands_slot, goes_on, slot_left, starved, founds, next_slots, stands_same, ran_after_same, loans_on, some_there, none_there}
+use Rattle.walk.proofs.TurnLaws.{begins, task_in, task_few, rises, passes, backs, ends, stops, idle_barred, idle_stops, idle_starves, idles, stands_without, stands_slot, goes_on, slot_left, starved, founds, next_slots, stands_same, ran_after_same, loans_on, some_there}
 use Rattle.walk.proofs.Walker.+cell_finish_slot.Goals as goal
 
 pub cell-loop-rest-init : goal.cell-loop-rest-init
@@ -105,8 +106,8 @@ finish_slot-cell-requires-then-slot-from t c =
 
 pub finish_slot-returns-then-slot-from-clause-ran : goal.finish_slot-returns-then-slot-from-clause-ran
 finish_slot-returns-then-slot-from-clause-ran t c =
-    next_slots c.requires (omega (arith, c.from.ensures, c.if-core-from.false)) (sym c.first_due.ensures ∙ none_there _ (sym c.is_some.ensures ∙ c.if-is_some.false)) (omega (arith, c.from-2.ensures, c.if-slot-from.true)) c.enter-sets.ensures c.cell-then-slot-from.ensures.ran
+    next_slots c.requires (omega (arith, c.from.ensures, c.if-core-from.false)) (sym c.first_due.ensures ∙ None-if_not_some _ (sym c.is_some.ensures ∙ c.if-is_some.false)) (omega (arith, c.from-2.ensures, c.if-slot-from.true)) c.enter-sets.ensures c.cell-then-slot-from.ensures.ran
 
 pub finish_slot-returns-clause-ran : goal.finish_slot-returns-clause-ran
 finish_slot-returns-clause-ran t c =
-    founds c.requires (omega (arith, c.from.ensures, c.if-core-from.false)) (sym c.first_due.ensures ∙ none_there _ (sym c.is_some.ensures ∙ c.if-is_some.false)) (omega (arith, c.from-2.ensures, c.if-slot-from.false))
+    founds c.requires (omega (arith, c.from.ensures, c.if-core-from.false)) (sym c.first_due.ensures ∙ None-if_not_some _ (sym c.is_some.ensures ∙ c.if-is_some.false)) (omega (arith, c.from-2.ensures, c.if-slot-from.false))
