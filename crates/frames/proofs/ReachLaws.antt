@@ -90,10 +90,6 @@ pub record Reached (text : List ℕ) (p : Problem) (last : Option Frame) (rest :
   pub was : WasFrame last state.last
   pub decides : read_lines start (lines text) ≡ read_lines state (lines rest)
 
--- before the first line
-pub reached_start : (text rest : List ℕ) (p : Problem) → Holds p start → rest ≡ text → Reached text p None rest
-reached_start text rest p h e = record { state = start; held = h; was = refl; decides = ap (λ t. read_lines start (lines t)) (sym e) }
-
 -- at a line
 module _ (text : List ℕ) (p : Problem) (last : Option Frame) (rest line behind : List ℕ) (R : Reached text p last rest)
     (cut : lines rest ≡ line_in line ∷ lines behind) where

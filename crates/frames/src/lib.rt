@@ -25,7 +25,7 @@ const LIMIT_LEFT_OUT: u32 = 1000000;
 #[derive(Drop)]
 pub struct Problem {
     pub m: u8,
-    tasks: ArrayVec<Task, 16>,
+    tasks: ArrayVec<Task, MAX_TASKS>,
     pub engine: u8,
     pub limit: u32,
 }
