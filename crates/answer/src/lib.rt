@@ -1,7 +1,7 @@
 // The writer of an answer's text.
 #![tactic(auto)]
 
-ghost use Rattle.std.specs.Prelude.{◌≡◌, ◌+◌, ◌*◌, ◌≤◌, length, drop};
+ghost use Rattle.std.specs.Prelude.{◌≡◌, ◌+◌, ◌*◌, ◌≤◌, length};
 ghost use Rattle.std.specs.Option.{is_some, unwrap_or};
 ghost use Rattle.laws.specs.Lists.{nth, over};
 ghost use Rattle.answer.specs.Write.{verdict_frame, row_frame, slot_lines, answer_lines, can_write, write_answer, Written};

@@ -4,25 +4,15 @@ use Prim.Native.Nat.{ℕ, suc, ◌+◌, ◌≤◌, ◌<◌}
 use native.Mathlib.Decide.{ℕ_discrete}
 use native.Mathlib.Numerals.{add-one}
 use native.Mathlib.Omega.{arith}
-use mathlib.Core.Path.{◌≡◌, ap}
-use mathlib.Core.Logic.{◌≢◌, ◌⊎◌, inl, inr, ⊎_elim}
+use mathlib.Core.Path.{◌≡◌, refl}
+use mathlib.Core.Logic.{◌≢◌, ◌⊎◌, inl, inr}
 use mathlib.Core.Bool.{true, false, ◌||◌}
 use borrow.Author.Tests.{le-leb, lt-leb, eq-eqb, ne_eqb}
 use lib.Dec.{eqb}
-use Rattle.frames.specs.Read.{may_follow, right_number}
-
--- behind 01 and 03 an 02, an 04 or an 07
-pub after_tasks : (last kind : ℕ) → (last ≡ 1) ⊎ (last ≡ 3) → may_follow last kind ≡ eqb kind 2 || (eqb kind 4 || eqb kind 7)
-unfolding may_follow
-after_tasks last kind = ⊎_elim (λ e. ap (λ x. may_follow x kind) e) (λ e. ap (λ x. may_follow x kind) e)
-
-pub none_of : (kind : ℕ) → ((kind ≡ 2) ⊎ ((kind ≡ 4) ⊎ (kind ≡ 7)) → ⊥) → eqb kind 2 || (eqb kind 4 || eqb kind 7) ≡ false
-none_of kind x = simp (ne_eqb kind 2 (λ e. x (inl e)), ne_eqb kind 4 (λ e. x (inr (inl e))), ne_eqb kind 7 (λ e. x (inr (inr e))))
-
--- behind an 07 nothing
-pub after_end : (last kind : ℕ) → last ≢ 0 → ((last ≡ 1) ⊎ (last ≡ 3) → ⊥) → last ≢ 2 → last ≢ 4 → may_follow last kind ≡ false
-unfolding may_follow
-after_end last kind a b c d = simp (ne_eqb last 0 a, ne_eqb last 1 (λ e. b (inl e)), ne_eqb last 3 (λ e. b (inr e)), ne_eqb last 2 c, ne_eqb last 4 d)
+use Rattle.lines.specs.declared.Kind.{Kind}
+use Rattle.lines.specs.declared.Kind.TheVariants.{Cores, Task, Rates, Limit, Verdict, Slot, End}
+use Rattle.lines.specs.Told.{code_of}
+use Rattle.frames.specs.Read.{right_number}
 
 -- ---- numbers of tasks
 task_kind : (kind : ℕ) → 2 ≤ kind → kind ≤ 3 → eqb kind 2 || eqb kind 3 ≡ true
@@ -30,6 +20,20 @@ task_kind kind a b = elim (ℕ_discrete kind 2) [
   | yes e ↦ rw e
   | no x ↦ simp (ne_eqb kind 2 x, eq-eqb kind 3 (omega arith))
 ]
+
+-- an 02 or an 03, and any other kind
+pub task_code : (kind : Kind) → (kind ≡ Task) ⊎ (kind ≡ Rates) → (2 ≤ code_of kind) × (code_of kind ≤ 3)
+task_code kind (inl e) = rw e (omega arith, omega arith)
+task_code kind (inr e) = rw e (omega arith, omega arith)
+
+pub other_code : (kind : Kind) → kind ≢ Task → kind ≢ Rates → (code_of kind ≢ 2) × (code_of kind ≢ 3)
+other_code Cores a b = (λ z. omega arith, λ z. omega arith)
+other_code Task a b = absurd (a refl)
+other_code Rates a b = absurd (b refl)
+other_code Limit a b = (λ z. omega arith, λ z. omega arith)
+other_code Verdict a b = (λ z. omega arith, λ z. omega arith)
+other_code Slot a b = (λ z. omega arith, λ z. omega arith)
+other_code End a b = (λ z. omega arith, λ z. omega arith)
 
 module _ (n kind number : ℕ) where
   -- a task's frame, where all numbers are used up

@@ -1,45 +1,63 @@
 -- What each frame adds to what the frames before it have said.
 -- Assumes nothing.
-use Prim.Native.Nat.{ℕ, ◌<◌}
-use mathlib.Core.Path.{◌≡◌, refl, ap, ◌∙◌}
-use mathlib.Core.Logic.{◌≢◌}
-use mathlib.Core.List.{List, [], ◌∷◌, ◌++◌}
+use Rattle.std.proofs.Common.{ℕ, ◌≡◌, ◌≢◌, List, [], ◌∷◌, ◌++◌, refl, sym, ap, ◌∙◌, arith, Option, Some}
 use borrow.Author.Tests.{ne_eqb}
+use Rattle.arrayvec.specs.ArrayVec.{ArrayVec}
 use Rattle.laws.specs.Lists.{nth, tab_from}
 use Rattle.tasks.specs.declared.Task.{Task}
-use Rattle.tasks.specs.declared.TaskList.{TaskList}
-use Rattle.tasks.specs.Task.{list_of, added}
-use Rattle.tasks.proofs.NumberLaws.{list_added}
+use Rattle.lines.specs.declared.Kind.{Kind}
+use Rattle.lines.specs.declared.Kind.TheVariants as kind
+use Rattle.lines.specs.declared.Frame.{Frame}
 use Rattle.lines.specs.Frame.{two, four, ten_bytes}
-use Rattle.frames.specs.Read.{Reading, task_of, taken_frame, held_by, problem_of}
+use Rattle.lines.specs.Told.{code_of, IsFrame}
 use Rattle.frames.specs.declared.Problem.{Problem}
+use Rattle.frames.specs.Read.{Reading, task_of, taken_frame}
+use Rattle.frames.specs.Told.{Holds, WasFrame}
 
--- the task of an 02 and an 03 behind those before it
-task_more : (ts : List Task) (l : TaskList) (last frame : List ℕ) → l ≡ list_of ts → l.n < 16 → added l (task_of last frame) ≡ list_of (ts ++ (task_of last frame ∷ []))
-unfolding list_of task_of
-task_more ts l last frame e few = ap (λ x. added x (task_of last frame)) e ∙ list_added ts (task_of last frame) (rw e at few) refl
+-- a frame that says nothing
+quiet : (k : Kind) → k ≢ kind.Cores → k ≢ kind.Rates → k ≢ kind.Limit → (code_of k ≢ 1) × (code_of k ≢ 3) × (code_of k ≢ 4)
+quiet kind.Cores a b c = absurd (a refl)
+quiet kind.Task a b c = (λ z. omega arith, λ z. omega arith, λ z. omega arith)
+quiet kind.Rates a b c = absurd (b refl)
+quiet kind.Limit a b c = absurd (c refl)
+quiet kind.Verdict a b c = (λ z. omega arith, λ z. omega arith, λ z. omega arith)
+quiet kind.Slot a b c = (λ z. omega arith, λ z. omega arith, λ z. omega arith)
+quiet kind.End a b c = (λ z. omega arith, λ z. omega arith, λ z. omega arith)
 
 -- what a frame says, kind by kind
-module _ (s : Reading) (p : Problem) (frame f : List ℕ) (e : p ≡ held_by s) (g : frame ≡ ten_bytes f) where
-  pub cores_said : nth frame 0 ≡ 1
-      → ◌≡◌ {A = Problem} record { refusal = p.refusal; m = nth frame 1; list = p.list; engine = p.engine; limit = p.limit } (held_by (taken_frame s f))
-  unfolding taken_frame ten_bytes tab_from problem_of
-  cores_said k = let kind : nth f 0 ≡ 1 = rw g at k in rw (e, g, kind)
+module _ (p : Problem) (frame : Frame) (s : Reading) (h : Holds p s) (f : List ℕ) (g : IsFrame frame f) where
+  pub cores_said : frame.kind ≡ kind.Cores → Holds (record { m = nth frame.bytes 1; tasks = p.tasks; engine = p.engine; limit = p.limit }) (taken_frame s f)
+  unfolding taken_frame ten_bytes tab_from
+  cores_said k =
+      let code : nth f 0 ≡ 1 = sym g.0 ∙ ap code_of k in
+      record { m = rw code (ap (λ b. nth b 1) g.1); tasks = rw code h.tasks; engine = rw code h.engine; limit = rw code h.limit }
 
-  pub task_said : (last : List ℕ) (τ : Task) (list : TaskList) → nth frame 0 ≡ 3 → last ≡ ten_bytes s.last → p.list.n < 16 → τ ≡ task_of last frame → list ≡ added p.list τ
-      → ◌≡◌ {A = Problem} record { refusal = p.refusal; m = p.m; list = list; engine = p.engine; limit = p.limit } (held_by (taken_frame s f))
-  unfolding taken_frame ten_bytes tab_from task_of two problem_of
-  task_said last τ list k q few t h =
-      let kind : nth f 0 ≡ 3 = rw g at k in
-      let more = h ∙ ap (added p.list) t ∙ task_more s.tasks p.list last frame (ap (λ x. x.list) e) few in
-      rw (more, e, q, g, kind)
+  pub task_said : (last : Option Frame) (numbers : Frame) (τ : Task) (tasks : ArrayVec Task) → last ≡ Some numbers → WasFrame last s.last → frame.kind ≡ kind.Rates
+      → τ ≡ task_of numbers.bytes frame.bytes → tasks.items ≡ p.tasks.items ++ (τ ∷ [])
+      → Holds (record { m = p.m; tasks = tasks; engine = p.engine; limit = p.limit }) (taken_frame s f)
+  unfolding taken_frame task_of two ten_bytes tab_from
+  task_said last numbers τ tasks was w k t more =
+      let code : nth f 0 ≡ 3 = sym g.0 ∙ ap code_of k in
+      let before : IsFrame numbers s.last = rw was at w in
+      record {
+        m = rw code h.m;
+        tasks = rw code (more ∙ rw (h.tasks, t, before.1, g.1));
+        engine = rw code h.engine;
+        limit = rw code h.limit;
+      }
 
-  pub limit_said : (limit : ℕ) → nth frame 0 ≡ 4 → limit ≡ four frame 2
-      → ◌≡◌ {A = Problem} record { refusal = p.refusal; m = p.m; list = p.list; engine = nth frame 1; limit = limit } (held_by (taken_frame s f))
-  unfolding taken_frame ten_bytes tab_from four two problem_of
-  limit_said limit k h = let kind : nth f 0 ≡ 4 = rw g at k in rw (e, h, g, kind)
+  pub limit_said : (limit : ℕ) → frame.kind ≡ kind.Limit → limit ≡ four frame.bytes 2
+      → Holds (record { m = p.m; tasks = p.tasks; engine = nth frame.bytes 1; limit = limit }) (taken_frame s f)
+  unfolding taken_frame four two ten_bytes tab_from
+  limit_said limit k e =
+      let code : nth f 0 ≡ 4 = sym g.0 ∙ ap code_of k in
+      record { m = rw code h.m; tasks = rw code h.tasks; engine = rw code (ap (λ b. nth b 1) g.1); limit = rw code (e ∙ rw g.1) }
 
-  pub nothing_said : nth frame 0 ≢ 1 → nth frame 0 ≢ 3 → nth frame 0 ≢ 4 → p ≡ held_by (taken_frame s f)
-  unfolding taken_frame ten_bytes tab_from problem_of
+  pub nothing_said : frame.kind ≢ kind.Cores → frame.kind ≢ kind.Rates → frame.kind ≢ kind.Limit → Holds p (taken_frame s f)
+  unfolding taken_frame
   nothing_said a b c =
-      e ∙ rw (ne_eqb (nth f 0) 1 (rw g at a), ne_eqb (nth f 0) 3 (rw g at b), ne_eqb (nth f 0) 4 (rw g at c))
+      let q = quiet frame.kind a b c in
+      let cores = ne_eqb (nth f 0) 1 (λ e. q.0 (g.0 ∙ e)) in
+      let rates = ne_eqb (nth f 0) 3 (λ e. q.1 (g.0 ∙ e)) in
+      let limit = ne_eqb (nth f 0) 4 (λ e. q.2 (g.0 ∙ e)) in
+      record { m = rw cores h.m; tasks = rw rates h.tasks; engine = rw limit h.engine; limit = rw limit h.limit }

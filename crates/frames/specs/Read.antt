@@ -4,12 +4,10 @@ use Rattle.std.specs.Prelude.{ℕ, zero, suc, Bool, false, cond, ◌&&◌, ◌||
 use Rattle.laws.specs.Tests.{imp}
 use Rattle.laws.specs.Lists.{nth}
 use Rattle.tasks.specs.declared.Task.{Task}
-use Rattle.tasks.specs.Task.{list_of}
 use Rattle.tasks.specs.Refusal.{unless}
 use Rattle.lines.specs.Frame.{two, four}
 use Rattle.lines.specs.Lines.{Line, bytes_of, lines}
 use Rattle.lines.specs.Refusal.{line_refusal}
-use Rattle.frames.specs.declared.Problem.{Problem}
 
 -- what a text holds: cores, tasks, engine and limit; or the number that refuses the file
 pub data Read : Type 0 where
@@ -90,16 +88,3 @@ read_within most text = or_read (unless (leb (length text) most) 20 0) (read_lin
 -- 8.5: a file of at most 1024 bytes
 abbrev pub read_problem : List ℕ → Read
 read_problem = read_within 1024
-
--- what holds before the first frame, beside a refusal, 0 for none
-unfoldable pub blank_of : ℕ → Problem
-blank_of k = record { refusal = k; m = start.m; list = list_of start.tasks; engine = start.engine; limit = start.limit }
-
--- what the code answers of a text
-unfoldable pub problem_of : Read → Problem
-problem_of (refused k) = blank_of k
-problem_of (problem m ts engine limit) = record { refusal = 0; m = m; list = list_of ts; engine = engine; limit = limit }
-
--- what it holds of the frames so far
-abbrev pub held_by : Reading → Problem
-held_by s = problem_of (said s)

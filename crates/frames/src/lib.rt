@@ -1,17 +1,16 @@
 // Frames: the reader of a problem's text.
 #![tactic(auto)]
 
-ghost use Rattle.std.specs.Prelude.{◌≡◌, List, ℕ, ◌+◌, ◌*◌, ◌≤◌, ◌<◌};
-ghost use Rattle.laws.specs.Lists.{nth};
-ghost use Rattle.lines.specs.Frame.{two, four, ten_bytes};
+ghost use Rattle.std.specs.Prelude.{◌≡◌, List, ℕ, ◌≤◌, ◌<◌, ◌==◌, length};
+ghost use Rattle.lines.specs.Frame.{two, four};
 ghost use Rattle.lines.specs.Lines.{lines};
-ghost use Rattle.frames.specs.Read.{Reading, start, may_follow, right_number, in_place, task_of, taken_frame, read_lines, read_problem, blank_of, held_by, problem_of};
+ghost use Rattle.lines.specs.Told.{code_of, IsFrame};
+ghost use Rattle.frames.specs.Read.{Reading, start, may_follow, right_number, in_place, task_of, taken_frame, read_lines, read_problem};
+ghost use Rattle.frames.specs.Told.{read_as, Holds, code_before, WasFrame};
 
-use lines::{CORES, END, LIMIT, OUT_OF_PLACE, RATES, TASK};
-use tasks::{MAX_TASKS, Rates, Slots, Task, TaskList, Work};
-
-// What stands for the kind of the last frame before the first.
-const NO_FRAME: u8 = 0;
+use arrayvec::ArrayVec;
+use lines::{Frame, Kind};
+use tasks::{MAX_TASKS, Rates, Refusal, Slots, Task, Work};
 
 // A file over this is refused.
 const MAX_TEXT: usize = 1024;
@@ -22,172 +21,151 @@ const ENGINE_LEFT_OUT: u8 = 1;
 // The limit where 04 is left out.
 const LIMIT_LEFT_OUT: u32 = 1000000;
 
-// The refusal of a text that is too long (RULES 8.5).
-const TOO_LONG: u8 = 20;
-
-// A number of two bytes, high byte first.
-fn two_bytes(high: u8, low: u8) -> u16
-    ensures { result ≡ high * 256 + low }
-{
-    (high as u16) * 256 + (low as u16)
-}
-
-// The one that stands at a place of a frame.
-fn number_at(frame: [u8; 10], at: usize) -> u16
-    requires { at ≤ 8 }
-    ensures { result ≡ two frame at }
-{
-    two_bytes(frame[at], frame[at + 1])
-}
-
-// The limit of an 04.
-fn limit_of(frame: [u8; 10]) -> u32
-    ensures { result ≡ four frame 2 }
-{
-    (number_at(frame, 2) as u32) * 65536 + (number_at(frame, 4) as u32)
-}
-
-// Whether a frame of a kind may stand behind one of the last kind, 0 at the start.
-fn may_follow(last: u8, kind: u8) -> bool
-    ensures { result ≡ may_follow last kind }
-{
-    match last {
-        NO_FRAME => kind == CORES,
-        CORES | RATES => match kind {
-            TASK | LIMIT | END => true,
-            _ => false,
-        },
-        TASK => kind == RATES,
-        LIMIT => kind == END,
-        _ => false,
-    }
-}
-
-// What a text holds: a problem, or the number that refuses the file.
-#[derive(Clone, Copy)]
+// What a text holds: the cores, the tasks, the engine and the limit of a problem.
+#[derive(Drop)]
 pub struct Problem {
-    pub refusal: u8,
     pub m: u8,
-    pub list: TaskList,
+    tasks: ArrayVec<Task, MAX_TASKS>,
     pub engine: u8,
     pub limit: u32,
 }
 
+// The number of two bytes that stands at a place of a frame.
+fn number_at(bytes: [u8; 10], at: usize) -> u16
+    requires { at ≤ 8 }
+    ensures { result ≡ two bytes at }
+{
+    u16::from_be_bytes([bytes[at], bytes[at + 1]])
+}
+
+// The limit of an 04.
+fn limit_of(bytes: [u8; 10]) -> u32
+    ensures { result ≡ four bytes 2 }
+{
+    u32::from_be_bytes([bytes[2], bytes[3], bytes[4], bytes[5]])
+}
+
+// The task of an 02 and an 03.
+fn task_of(numbers: [u8; 10], rates: [u8; 10]) -> Task
+    ensures { result ≡ task_of numbers rates }
+{
+    Task {
+        offset: Slots(number_at(numbers, 2)),
+        work: Work(number_at(numbers, 4)),
+        deadline: Slots(number_at(numbers, 6)),
+        period: Slots(number_at(numbers, 8)),
+        rates: Rates([rates[2], rates[3], rates[4], rates[5]]),
+    }
+}
+
+// Whether a frame of a kind may stand behind the last one.
+#[tactic(auto, unfolding(crate::specs::Read::may_follow))]
+fn may_follow(last: Option<Frame>, kind: Kind) -> bool
+    ensures { result ≡ may_follow (code_before last) (code_of kind) }
+{
+    let Some(last) = last else {
+        return kind == Kind::Cores;
+    };
+    match last.kind {
+        Kind::Cores | Kind::Rates => matches!(kind, Kind::Task | Kind::Limit | Kind::End),
+        Kind::Task => kind == Kind::Rates,
+        Kind::Limit => kind == Kind::End,
+        Kind::Verdict | Kind::Slot | Kind::End => false,
+    }
+}
+
 // Whether a frame has the number of the next task, if it has a task's number.
-#[tactic(auto, using(crate::proofs::PlaceLaws::number_over, crate::proofs::PlaceLaws::number_next, crate::proofs::PlaceLaws::number_none))]
-fn right_number(n: u8, kind: u8, number: u8) -> bool
-    ensures { result ≡ right_number n kind number }
+fn right_number(count: usize, kind: Kind, number: u8) -> bool
+    ensures { result ≡ right_number count (code_of kind) number }
 {
     match kind {
-        TASK | RATES => {
-            if MAX_TASKS <= n {
-                return false;
-            }
-            number == n + 1
-        }
+        Kind::Task | Kind::Rates => count < MAX_TASKS && usize::from(number) == count + 1,
         _ => true,
     }
 }
 
-// Whether a frame stands in its place behind the last one, where n tasks have been read.
-fn in_place(last: u8, n: u8, frame: [u8; 10]) -> bool
-    ensures { result ≡ in_place last n frame }
+// Whether a frame stands in its place behind the last one, where so many tasks have been read.
+fn in_place(last: Option<Frame>, count: usize, frame: Frame) -> bool
+    ensures { (f : List ℕ) → IsFrame frame f → result ≡ in_place (code_before last) count f }
 {
-    let kind = frame[0];
-    if !may_follow(last, kind) {
-        return false;
-    }
-    right_number(n, kind, frame[1])
+    may_follow(last, frame.kind) && right_number(count, frame.kind, frame.bytes[1])
 }
 
-// The task of an 02 and an 03.
-fn task_of(last: [u8; 10], frame: [u8; 10]) -> Task
-    ensures { result ≡ task_of last frame }
+// Whether the last frame is an 07.
+fn is_end(last: Option<Frame>) -> bool
+    ensures { result ≡ (code_before last == 7) }
 {
-    Task {
-        offset: Slots(number_at(last, 2)),
-        work: Work(number_at(last, 4)),
-        deadline: Slots(number_at(last, 6)),
-        period: Slots(number_at(last, 8)),
-        rates: Rates([frame[2], frame[3], frame[4], frame[5]]),
-    }
+    last.is_some_and(|frame| frame.kind == Kind::End)
 }
 
-// What the frames so far have said, and what one more in its place says.
-fn take_frame(mut p: Problem, last: [u8; 10], frame: [u8; 10]) -> Problem
-    requires { nth frame 0 ≡ 3 → p.list.n < 16 }
-    ensures { (s : Reading) → p ≡ held_by s → last ≡ ten_bytes s.last → (f : List ℕ) → frame ≡ ten_bytes f → result ≡ held_by (taken_frame s f) }
-{
-    match frame[0] {
-        CORES => {
-            p.m = frame[1];
+impl Problem {
+    // What holds before the first frame.
+    fn new() -> Problem
+        ensures { Holds result start }
+    {
+        Problem {
+            m: 0,
+            tasks: ArrayVec::new(),
+            engine: ENGINE_LEFT_OUT,
+            limit: LIMIT_LEFT_OUT,
         }
-        RATES => {
-            p.list = tasks::add_task(p.list, task_of(last, frame));
-        }
-        LIMIT => {
-            p.engine = frame[1];
-            p.limit = limit_of(frame);
-        }
-        _ => {}
     }
-    p
-}
 
-// What holds before the first frame, beside a refusal, 0 for none.
-fn blank(refusal: u8) -> Problem
-    ensures { result ≡ blank_of refusal }
-{
-    Problem {
-        refusal,
-        m: 0,
-        list: TaskList {
-            n: 0,
-            offset: [0; 16],
-            work: [0; 16],
-            deadline: [0; 16],
-            period: [0; 16],
-            rates: [0; 64],
-        },
-        engine: ENGINE_LEFT_OUT,
-        limit: LIMIT_LEFT_OUT,
+    // The tasks.
+    pub fn tasks(&self) -> &[Task]
+        ensures { result.now ≡ self.now.tasks.items }
+    {
+        self.tasks.as_slice()
+    }
+
+    // What one more frame says behind the last one: an 03 with the 02 before it makes a task.
+    fn take_frame(&mut self, last: Option<Frame>, frame: Frame)
+        requires { frame.kind ≡ Kind.Rates → (code_before last ≡ 2) × (length self.old.tasks.items < 16) }
+        ensures { (s : Reading) → Holds self.old s → WasFrame last s.last → (f : List ℕ) → IsFrame frame f → Holds self.new (taken_frame s f) }
+    {
+        match frame.kind {
+            Kind::Cores => self.m = frame.bytes[1],
+            Kind::Rates => {
+                if let Some(numbers) = last {
+                    self.tasks.push(task_of(numbers.bytes, frame.bytes));
+                }
+            }
+            Kind::Limit => {
+                self.engine = frame.bytes[1];
+                self.limit = limit_of(frame.bytes);
+            }
+            _ => {}
+        }
     }
 }
 
-// Refusals 21 to 24, line by line; else the problem.
-fn read_lines(text: &[u8]) -> Problem
-    ensures { result ≡ problem_of (read_lines start (lines text.now)) }
+// The problem, line by line; or refusals 21 to 24.
+fn read_lines(text: &[u8]) -> Result<Problem, Refusal>
+    ensures { read_as result ≡ read_lines start (lines text.now) }
 {
-    let mut p = blank(0);
-    let mut last = [0u8; 10];
-    let mut at: usize = 0;
-    while at < text.len() {
-        let to = lines::line_end(text, at);
-        let refusal = lines::line_refusal(text, at, to);
-        if refusal != 0 {
-            return blank(refusal);
+    let mut problem = Problem::new();
+    let mut last = None;
+    for line in text.split_inclusive(|c| *c == b'\n') {
+        let frame = lines::read_line(line)?;
+        if !in_place(last, problem.tasks.len(), frame) {
+            return Err(Refusal::Place);
         }
-        let frame = lines::frame_at(text, at, to);
-        if !in_place(last[0], p.list.n, frame) {
-            return blank(OUT_OF_PLACE);
-        }
-        p = take_frame(p, last, frame);
-        last = frame;
-        at = to + 1;
+        problem.take_frame(last, frame);
+        last = Some(frame);
     }
-    let unended = last[0] != END;
-    if unended {
-        return blank(OUT_OF_PLACE);
+    if !is_end(last) {
+        return Err(Refusal::Place);
     }
-    p
+    Ok(problem)
 }
 
-// The problem that a text holds, or its refusal.
-pub fn read_problem(text: &[u8]) -> Problem
-    ensures { result ≡ problem_of (read_problem text.now) }
+// The problem that a text holds; or its refusal, 20 to 24.
+#[tactic(auto, unfolding(crate::specs::Read::read_within, tasks::specs::Refusal::unless))]
+pub fn read_problem(text: &[u8]) -> Result<Problem, Refusal>
+    ensures { read_as result ≡ read_problem text.now }
 {
     if MAX_TEXT < text.len() {
-        return blank(TOO_LONG);
+        return Err(Refusal::Text);
     }
     read_lines(text)
 }

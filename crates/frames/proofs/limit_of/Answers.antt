@@ -1,8 +1,9 @@
--- `frames::limit_of` meets its contract: two numbers of two bytes, the high one first.
+-- `frames::limit_of` meets its contract: high byte first.
 -- Assumes nothing.
-use Rattle.lines.specs.Frame.{four}
+use Rattle.std.proofs.Common.{arith}
+use Rattle.lines.specs.Frame.{two, four}
 use Rattle.frames.proofs.limit_of.Goals as goal
 
 pub returns : goal.returns
-unfolding four
-returns c = rw (c.number_at.ensures, c.number_at-2.ensures)
+unfolding two four
+returns c = rw c.from_be_bytes.ensures (omega arith)

@@ -1,8 +1,8 @@
--- `frames::number_at` meets its contract: the byte at the place is the high one.
+-- `frames::number_at` meets its contract: high byte first.
 -- Assumes nothing.
-use Rattle.lines.specs.Frame.{two}
 use Rattle.frames.proofs.number_at.Goals as goal
+use Rattle.lines.specs.Frame.{two}
 
 pub returns : goal.returns
 unfolding two
-returns c = c.two_bytes.ensures
+returns c = rw c.from_be_bytes.ensures

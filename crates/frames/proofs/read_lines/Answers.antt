@@ -1,47 +1,38 @@
--- `frames::read_lines` meets its contract. The loop's invariant: the code's numbers stand for a state from which the rest of the text decides. The measure is what is left of the text.
+-- `frames::read_lines` meets its contract: each line is refused or read, and the end decides.
 -- Assumes nothing.
-use mathlib.Core.Path.{refl, sym, ◌∙◌}
-use native.Mathlib.Omega.{arith}
-use borrow.Author.Tests.{not-true, not-false}
-use Rattle.laws.specs.Lists.{tab_from}
-use Rattle.lines.specs.Frame.{ten_bytes}
-use Rattle.lines.proofs.RefusalLaws.{line_passed}
-use Rattle.frames.proofs.ReachLaws.{number_room, reached_start, line_refused, place_refused, reached_next, no_end, read_all}
+use Rattle.std.proofs.Common.{rules}
+use Rattle.std.proofs.lemmas.Result.{err_from_is_err_and}
+use Rattle.tasks.proofs.RefusalLaws.{some_number}
+use Rattle.frames.proofs.ReachLaws.{next_cut, line_refused, place_refused, rates_room, reached_next, no_end, read_all}
 use Rattle.frames.proofs.read_lines.Goals as goal
 
-pub loop-at-init : goal.loop-at-init
-unfolding ten_bytes tab_from
-loop-at-init c = reached_start _ _ _ c.blank-p.ensures refl
-
-pub returns-then-refusal-ne0 : goal.returns-then-refusal-ne0
-returns-then-refusal-ne0 c =
-    c.blank.ensures
-    ∙ line_refused _ _ _ _ _ c.loop-at.invariant c.loop-at-test.true c.line_end-to.ensures _ c.line_refusal-refusal.ensures c.if-refusal-ne0.true
-
-pub frame_at-frame-requires : goal.frame_at-frame-requires
-frame_at-frame-requires c =
-    let e = c.line_end-to.ensures in
-    let a = c.args in
-    (e.behind, e.within, (line_passed a.text.now _ _ e.within (sym c.line_refusal-refusal.ensures ∙ c.if-refusal-ne0.false)).1)
+pub returns-in_err-frame : goal.returns-in_err-frame
+returns-in_err-frame c =
+    let cut = next_cut _ _ _ _ _ _ (λ f a r f' k. search rules) c.in-Some.ensures.steps in
+    let p = err_from_is_err_and c.from_residual.result c.from_residual.ensures.1 in
+    rw (p.1, p.2) (line_refused _ _ _ _ _ _ c.loop-line.invariant cut _ c.in_err-frame.ensures.refusal (some_number _))
 
 pub returns-then-not-in_place : goal.returns-then-not-in_place
 returns-then-not-in_place c =
-    c.blank-then-not-in_place.ensures
-    ∙ place_refused _ _ _ _ _ c.loop-at.invariant c.loop-at-test.true c.line_end-to.ensures _
-    (sym c.line_refusal-refusal.ensures ∙ c.if-refusal-ne0.false) c.frame_at-frame.ensures (sym c.in_place.ensures ∙ not-true _ c.if-not-in_place.true-raw)
+    let cut = next_cut _ _ _ _ _ _ (λ f a r f' k. search rules) c.in-Some.ensures.steps in
+    place_refused _ _ _ _ _ _ c.loop-line.invariant cut c.in_ok-frame.ensures.refusal _ c.len.ensures.value
+    (c.if-not-in_place.ensures _ c.in_ok-frame.ensures.frame)
 
-pub take_frame-p-requires : goal.take_frame-p-requires
-take_frame-p-requires c = λ k. number_room _ _ _ (sym c.in_place.ensures ∙ not-false _ c.if-not-in_place.false-raw) k
+pub take_frame-requires : goal.take_frame-requires
+take_frame-requires c =
+    λ k. let room = rates_room _ _ c.in_ok-frame.frame _ c.in_ok-frame.ensures.frame (c.if-not-in_place.ensures _ c.in_ok-frame.ensures.frame) k in
+    (room.0, rw c.len.ensures.value at room.1)
 
-pub loop-at-preserved : goal.loop-at-preserved
-loop-at-preserved c =
-    let R = c.loop-at.invariant in
-    reached_next _ _ _ _ _ R c.loop-at-test.true c.line_end-to.ensures _
-    (sym c.line_refusal-refusal.ensures ∙ c.if-refusal-ne0.false) c.frame_at-frame.ensures _ (sym c.in_place.ensures ∙ not-false _ c.if-not-in_place.false-raw)
-    (c.take_frame-p.ensures R.state R.held R.frame _ c.frame_at-frame.ensures)
+pub loop-line-preserved : goal.loop-line-preserved
+loop-line-preserved c =
+    let cut = next_cut _ _ _ _ _ _ (λ f a r f' k. search rules) c.in-Some.ensures.steps in
+    let i = c.loop-line.invariant in
+    reached_next _ _ _ _ _ _ i cut c.in_ok-frame.ensures.refusal _ c.len.ensures.value c.in_ok-frame.frame _
+    (c.if-not-in_place.ensures _ c.in_ok-frame.ensures.frame) c.in_ok-frame.ensures.frame
+    (c.take_frame.ensures i.state i.held i.was _ c.in_ok-frame.ensures.frame)
 
-pub returns-then-unended : goal.returns-then-unended
-returns-then-unended c = c.blank-then-unended.ensures ∙ no_end _ _ _ _ c.loop-at.invariant c.loop-at-test.false (λ e. omega (arith, e, c.if-unended.true))
+pub returns-then-not-is_end : goal.returns-then-not-is_end
+returns-then-not-is_end c = no_end _ _ _ _ c.loop-line.invariant c.in-None.ensures.steps.0 c.if-not-is_end.ensures
 
 pub returns : goal.returns
-returns c = read_all _ _ _ _ c.loop-at.invariant c.loop-at-test.false (omega (arith, c.if-unended.false))
+returns c = read_all _ _ _ _ c.loop-line.invariant c.in-None.ensures.steps.0 c.if-not-is_end.ensures
