@@ -1,4 +1,4 @@
--- What a call of each public function ensures, as its contract says, and that it leaves one answer.
+-- What a call of `fill_grid` ensures, as its contract says, and that it leaves one grid.
 -- Assumes nothing.
 use Prim.Native.Nat.{ℕ}
 use mathlib.Core.Path.{◌≡◌, refl}
@@ -12,14 +12,15 @@ use Rattle.fill.specs.Engine.{engine_of}
 use Rattle.fill.specs.Grid.{grid_of}
 use Rattle.fill.specs.contracts.fill_grid as fill_grid_call
 
--- ---- fill_grid
-abbrev pub FillGrid : List Task → ℕ → Engine → Slots → Grid → Type 0
-FillGrid ts m engine len grid = grid ≡ grid_of ts m (engine_of engine) len.0
+-- ---- fill_grid: it finds the grid g and leaves g'
+abbrev pub FillGrid : Grid → List Task → ℕ → Engine → Slots → Grid → Type 0
+FillGrid g ts m engine len g' = g' ≡ grid_of ts m (engine_of engine) len.0 g
 
-fill_grid_says : (κs tasks m engine len tasks' m' engine' len' r : _)
-    → Says (λ M 𝓤 𝓛 mem run. fill_grid_call.ensures-1 𝓛 κs mem run tasks m engine len tasks' m' engine' len' r) (FillGrid tasks'.entry.now m engine len r)
-fill_grid_says κs tasks m engine len tasks' m' engine' len' r M 𝓤 𝓛 mem run = refl
+fill_grid_says : (κs grid tasks m engine len grid' tasks' m' engine' len' r : _)
+    → Says (λ M 𝓤 𝓛 mem run. fill_grid_call.ensures-1 𝓛 κs mem run grid tasks m engine len grid' tasks' m' engine' len' r)
+    (FillGrid grid'.entry.now tasks'.entry.now m engine len grid'.exit.now)
+fill_grid_says κs grid tasks m engine len grid' tasks' m' engine' len' r M 𝓤 𝓛 mem run = refl
 
-pub fill_grid_only : (ts : List Task) (m : ℕ) (engine : Engine) (len : Slots) (grid grid' : Grid)
-    → FillGrid ts m engine len grid → FillGrid ts m engine len grid' → grid ≡ grid'
-fill_grid_only ts m engine len grid grid' = only
+pub fill_grid_only : (g : Grid) (ts : List Task) (m : ℕ) (engine : Engine) (len : Slots) (u u' : Grid)
+    → FillGrid g ts m engine len u → FillGrid g ts m engine len u' → u ≡ u'
+fill_grid_only g ts m engine len u u' = only

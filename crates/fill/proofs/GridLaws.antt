@@ -34,7 +34,7 @@ use Rattle.grid.specs.declared.Grid.{Grid}
 use Rattle.grid.specs.Grid.{cores_on, OnGrid}
 use Rattle.grid.specs.GridFor.{Small, entry_of, is_quick, GridFor}
 use Rattle.grid.proofs.GridForLaws.{counter_le}
-use Rattle.fill.specs.Grid.{entry_for, entry_in, entries_of, end_mark, rate_in, even_pair, even_row, sets_by, quick_bit, rated_bit, rated_row, cores_twin, twins_of, grid_of}
+use Rattle.fill.specs.Grid.{entry_for, entry_in, entries_of, end_mark, rate_in, even_pair, even_row, sets_by, quick_bit, rated_bit, rated_row, cores_twin, twins_of, empty_grid, grid_of}
 use Rattle.fill.proofs.FillLaws.{rows_at}
 use Rattle.fill.proofs.RateLaws.{quick_few, bit_le, rated_few}
 
@@ -141,8 +141,8 @@ module _ {m : ℕ} {ts : List Task} (s : SoundList m ts) where
 
   -- the grid is ready for the instance
   module _ (e : ℕ) where
-    pub grid_for : GridFor (own_instance m ts) e (grid_of ts m e (table_length ts))
-    unfolding grid_of entry_for entry_of twins_of instance_of is_jobs
+    pub grid_for : GridFor (own_instance m ts) e (grid_of ts m e (table_length ts) empty_grid)
+    unfolding grid_of empty_grid entry_for entry_of twins_of instance_of is_jobs
     grid_for = record {
       slots = refl;
       cores = refl;
@@ -162,10 +162,10 @@ module _ {m : ℕ} {ts : List Task} (s : SoundList m ts) where
     }
 
 -- ---- what the walk asks of a grid that was filled
-module _ (m : ℕ) (ts : List Task) (e L : ℕ) (sound : IsSound m ts) (eL : L ≡ table_length ts) (grid : Grid) (eg : grid ≡ grid_of ts m e L) where
+module _ (m : ℕ) (ts : List Task) (e L : ℕ) (sound : IsSound m ts) (eL : L ≡ table_length ts) (grid : Grid) (eg : grid ≡ grid_of ts m e L empty_grid) where
   -- it is the instance's
   pub filled_ready : GridFor (own_instance m ts) e grid
-  filled_ready = subst (GridFor (own_instance m ts) e) (sym (eg ∙ ap (grid_of ts m e) eL)) (grid_for (sound_list m ts sound) e)
+  filled_ready = subst (GridFor (own_instance m ts) e) (sym (eg ∙ ap (λ n. grid_of ts m e n empty_grid) eL)) (grid_for (sound_list m ts sound) e)
 
   -- and has a first cell
   pub filled_starts : OnGrid grid 0 × (0 < cores_on grid)

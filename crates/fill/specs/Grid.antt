@@ -1,6 +1,6 @@
 -- What stands on the grid of a list.
 -- Assumes nothing.
-use Rattle.std.specs.Prelude.{ℕ, zero, suc, ◌+◌, ◌*◌, ◌/◌, ◌%◌, Bool, cond, ◌&&◌, List, [], ◌∷◌, ltb, eqb, length, replicate}
+use Rattle.std.specs.Prelude.{ℕ, zero, suc, ◌+◌, ◌*◌, ◌/◌, ◌%◌, Bool, false, cond, ◌&&◌, List, [], ◌∷◌, ltb, eqb, length, replicate}
 use Rattle.laws.specs.Sum.{gate}
 use Rattle.laws.specs.Tests.{all, imp}
 use Rattle.laws.specs.Lists.{nth, tab, seek, filled}
@@ -86,13 +86,27 @@ cores_twin ts a b = all (length ts) (λ v. eqb (rate_in ts v a) (rate_in ts v b)
 unfoldable pub twins_of : ℕ → List Task → List Bool
 twins_of e ts = tab 16 (λ x. is_quick e && cores_twin ts (x % 4) (x / 4))
 
--- the grid for a list on m cores in L slots, by engine e
-unfoldable pub grid_of : List Task → ℕ → ℕ → ℕ → Grid
-grid_of ts m e L =
-    let entries : List ℕ = entries_of ts L (replicate 16384 0) in
+-- a grid on which nothing stands yet
+unfoldable pub empty_grid : Grid
+empty_grid = record {
+  entries = replicate 16384 0;
+  ends = replicate 1024 0;
+  rates = replicate 64 0;
+  even = 0;
+  rated = 0;
+  twins = replicate 16 false;
+  tasks = 0;
+  cores = 0;
+  slots = 0;
+}
+
+-- the grid for a list on m cores in L slots, by engine e, filled where g stands
+unfoldable pub grid_of : List Task → ℕ → ℕ → ℕ → Grid → Grid
+grid_of ts m e L g =
+    let entries : List ℕ = entries_of ts L g.entries in
     record {
       entries = entries;
-      ends = filled (replicate 1024 0) 0 L (end_mark entries (length ts));
+      ends = filled g.ends 0 L (end_mark entries (length ts));
       rates = rates_of ts;
       even = evens_of e ts;
       rated = rated_of ts;

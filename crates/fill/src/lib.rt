@@ -206,25 +206,18 @@ fn twins(tasks: &[Task], engine: Engine) -> [bool; 16]
     std::array::from_fn(|x| engine.is_quick() && cores_twin(tasks, x % 4, x / 4))
 }
 
-// The whole grid.
+// The whole grid, in the one that is lent: handed out by value it would take the stack of two.
 #[tactic(auto, unfolding(crate::specs::Grid::grid_of))]
-pub fn fill_grid(tasks: &[Task], m: u8, engine: Engine, len: Slots) -> Grid
+pub fn fill_grid(grid: &mut Grid, tasks: &[Task], m: u8, engine: Engine, len: Slots)
     requires { (length tasks.now ≤ 16) × (len.0 ≤ 1024) × ((k : ℕ) → k < length tasks.now → Fit len.0 (task tasks.now (suc k))) }
-    ensures { result ≡ grid_of tasks.now m (engine_of engine) len.0 }
+    ensures { grid.new ≡ grid_of tasks.now m (engine_of engine) len.0 grid.old }
 {
-    let (even, rated) = task_sets(tasks, engine);
-    let mut grid = Grid {
-        entries: [0; 16384],
-        ends: [0; 1024],
-        rates: rates(tasks),
-        even,
-        rated,
-        twins: twins(tasks, engine),
-        tasks: tasks.len() as u16,
-        cores: u16::from(m),
-        slots: len.0,
-    };
     fill_entries(&mut grid.entries, tasks, len);
     fill_ends(&mut grid.ends, &grid.entries, tasks.len(), len);
-    grid
+    grid.rates = rates(tasks);
+    (grid.even, grid.rated) = task_sets(tasks, engine);
+    grid.twins = twins(tasks, engine);
+    grid.tasks = tasks.len() as u16;
+    grid.cores = u16::from(m);
+    grid.slots = len.0;
 }

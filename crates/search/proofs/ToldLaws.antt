@@ -30,11 +30,10 @@ use Rattle.walk.specs.declared.End.TheVariants.{Found, NoneFound, Stopped}
 use Rattle.walk.specs.declared.Walked.{Walked}
 use Rattle.walk.specs.Machine.{State, walk_on, first_on, cells_left as cells_after, full, Ran}
 use Rattle.walk.proofs.RefineLaws.{told_at, Shows, shows_same, walk_limited}
-use Rattle.fill.specs.Grid.{grid_of}
+use Rattle.fill.specs.Grid.{empty_grid, grid_of}
 use Rattle.fill.proofs.FillLaws.{rows_length, rows_at, rows_behind}
 use Rattle.fill.proofs.GridLaws.{instance_small, filled_ready}
 use Rattle.search.specs.declared.Outcome.{Outcome}
-use Rattle.search.specs.declared.Outcome.TheVariants as outcome
 use Rattle.search.specs.declared.Answer.{Answer}
 use Rattle.search.specs.Told.{left_in, left_of, ListWalked, outcome_of, cells_left, walk_told, answered_as}
 use Rattle.search.proofs.AnswerLaws.{few_cells}
@@ -129,7 +128,7 @@ module _ {m : ℕ} {ts : List Task} (s : SoundList m ts) where
           rows_at 16 (length ts) (λ job v. (task ts (suc v)).work.0) (replicate 16385 0) 1024 k v few l s.few_tasks (rw (length-replicate {A = ℕ} 16385 0) (omega arith)) ∙ omega arith
 
 -- ---- a walk over the filled arrays
-pub filled_walks : (ts : List Task) (m e L u : ℕ) (t : List ℕ) (r : Walked) (t' : List ℕ) (grid : Grid) (left l : List ℕ) → grid ≡ grid_of ts m e L
+pub filled_walks : (ts : List Task) (m e L u : ℕ) (t : List ℕ) (r : Walked) (t' : List ℕ) (grid : Grid) (left l : List ℕ) → grid ≡ grid_of ts m e L empty_grid
     → left ≡ left_in ts 1024 (replicate 16385 0) → Ran grid 0 0 (sets_on grid left 0) t left u r.end t' l r.tries → ListWalked ts m e L u t r t'
 unfolding left_of
 filled_walks ts m e L u t r t' grid left l eg el ran =
@@ -143,7 +142,7 @@ module _ (m : ℕ) (ts : List Task) (e b L : ℕ) (sound : IsSound m ts) (eL : L
 
   -- its grid
   grid : Grid
-  grid = grid_of ts m e L
+  grid = grid_of ts m e L empty_grid
 
   -- its cells are the table's
   few : L * m ≤ 4096

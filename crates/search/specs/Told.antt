@@ -14,7 +14,7 @@ use Rattle.walk.specs.declared.End.{End}
 use Rattle.walk.specs.declared.End.TheVariants as end
 use Rattle.walk.specs.declared.Walked.{Walked}
 use Rattle.walk.specs.Machine.{Ran}
-use Rattle.fill.specs.Grid.{in_rows, grid_of}
+use Rattle.fill.specs.Grid.{in_rows, empty_grid, grid_of}
 use Rattle.search.specs.declared.Outcome.{Outcome}
 use Rattle.search.specs.declared.Outcome.TheVariants.{Found, NoTable, Stopped}
 use Rattle.search.specs.declared.Answer.{Answer}
@@ -30,7 +30,7 @@ left_of ts = left_in ts 1024 (replicate 16385 0)
 -- what a walk over the grid and the counters of a list answers and leaves: from u tries and the cells t, the answer r and the cells t'
 pub record ListWalked (ts : List Task) (m e L u : ℕ) (t : List ℕ) (r : Walked) (t' : List ℕ) : Type 0 where
   pub left : List ℕ
-  pub ran : Ran (grid_of ts m e L) 0 0 (sets_on (grid_of ts m e L) (left_of ts) 0) t (left_of ts) u r.end t' left r.tries
+  pub ran : Ran (grid_of ts m e L empty_grid) 0 0 (sets_on (grid_of ts m e L empty_grid) (left_of ts) 0) t (left_of ts) u r.end t' left r.tries
 
 -- how a search ends whose walk ends so
 abbrev pub outcome_of : End → Outcome

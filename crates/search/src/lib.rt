@@ -9,6 +9,7 @@ ghost use Rattle.fill.specs.Engine.{engine_of};
 ghost use Rattle.search.specs.Told.{left_in, ListWalked, cells_left, walk_told, answered_as, searched_as};
 
 use fill::Engine;
+use grid::Grid;
 use tasks::{Refusal, Slots, Task};
 use walk::{End, FULL, Walked};
 
@@ -78,7 +79,18 @@ fn walk_cells(
     requires { IsSound m tasks.now × (len.0 ≡ table_length tasks.now) }
     ensures { ListWalked tasks.now m (engine_of engine) len.0 start cells.old result cells.new }
 {
-    let grid = fill::fill_grid(tasks, m, engine, len);
+    let mut grid = Grid {
+        entries: [0; 16384],
+        ends: [0; 1024],
+        rates: [0; 64],
+        even: 0,
+        rated: 0,
+        twins: [false; 16],
+        tasks: 0,
+        cores: 0,
+        slots: 0,
+    };
+    fill::fill_grid(&mut grid, tasks, m, engine, len);
     let mut left = [0; 16385];
     fill_left(&mut left, tasks);
     walk::walk(cells, &grid, &mut left, start)
@@ -95,7 +107,8 @@ fn hand_over(table: &mut [u8], n: usize, outcome: Outcome, cells: &[u8; 4096])
     }
 }
 
-// The walk over a sound list, and what it leaves in the buffer.
+// The walk over a sound list, and what it leaves in the buffer. Out of line a search that is refused takes no stack for its arrays.
+#[inline(never)]
 fn walk_list(
     tasks: &[Task],
     m: u8,

@@ -1,6 +1,6 @@
 -- `search::fill_left` meets its contract. The loops' invariants: the counters passed hold their job's work, and the others are as they were.
 -- Assumes nothing.
-use Rattle.std.proofs.Common.{◌≡◌, ◌*◌, suc, length}
+use Rattle.std.proofs.Common.{◌≡◌, ◌*◌, suc}
 use Rattle.laws.specs.Lists.{filled}
 use Rattle.tasks.specs.Task.{task}
 use Rattle.search.specs.Told.{left_in}

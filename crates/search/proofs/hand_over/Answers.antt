@@ -4,7 +4,6 @@ use Rattle.std.proofs.Common.{ap, replicate, ◌∙◌, arith}
 use Rattle.std.proofs.Math.Logic.{⊎_elim}
 use lib.ListN.{length-replicate}
 use lib.Seq.{length-take-le}
-use Rattle.laws.specs.Lists.{over}
 use Rattle.search.specs.Told.{cells_left}
 use Rattle.search.proofs.AnswerLaws.{written}
 use Rattle.search.proofs.hand_over.Goals as goal

@@ -8,10 +8,11 @@ use Rattle.search.proofs.walk_list.Goals as goal
 pub hand_over-requires : goal.hand_over-requires
 hand_over-requires c =
     let cells = ap₂ ◌*◌ c.from.ensures c.from-2.ensures in
-    (omega (arith, cells, few_cells _ _ _ c.requires.0 c.requires.1), omega (arith, cells, c.requires.2))
+    let few = few_cells _ _ _ c.requires.0 c.requires.1 in
+    (omega (arith, cells, few), omega (arith, cells, few, c.requires.2))
 
 pub overflow_sub-result : goal.overflow_sub-result
-overflow_sub-result c = counted_up _ _ _ _ _ c.requires.0 c.requires.1 c.ranges.limit.fits _ _ c.walk_cells-walked.ensures
+overflow_sub-result c = omega (arith, counted_up _ _ _ _ _ c.requires.0 c.requires.1 c.ranges.limit.fits _ _ c.walk_cells-walked.ensures)
 
 pub returns : goal.returns
 returns c =
