@@ -30,7 +30,7 @@ write_answer_says : (κs verdict tries slots m table out verdict' tries' slots' 
 write_answer_says κs verdict tries slots m table out verdict' tries' slots' m' table' out' r M 𝓤 𝓛 mem run = refl
 
 -- an answer or none, and how many bytes it has
-same_count : (r r' : Option ℕ) → is_some r ≡ is_some r' → unwrap_or r 0 ≡ unwrap_or r' 0 → r ≡ r'
+pub same_count : (r r' : Option ℕ) → is_some r ≡ is_some r' → unwrap_or r 0 ≡ unwrap_or r' 0 → r ≡ r'
 same_count None None e q = refl
 same_count None (Some n) e q = absurd (true≢false (sym e))
 same_count (Some n) None e q = absurd (true≢false e)

@@ -26,7 +26,7 @@ use Rattle.tasks.proofs.SoundLaws.{within_is, is_within, rates_at, sound_list, o
 use Rattle.tasks.proofs.AnswerLaws.{unless_yes, unless_no, rates_under, or_first, or_next_lem}
 use Rattle.table.specs.Table.{cells, Valid}
 use Rattle.table.specs.Fault.{Fault, no_fault, in_cell, in_job, fault, Checked, refused}
-use Rattle.rules.specs.Search.{Searched, search_refusal, search}
+use Rattle.rules.specs.Search.{Searched, search_refusal}
 use Rattle.rules.proofs.Told.{refused_told}
 use Rattle.rules.proofs.Demand2.{searches}
 use Rattle.search.specs.declared.Answer.{Answer}

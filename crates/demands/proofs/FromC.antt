@@ -179,7 +179,7 @@ module _ (ts : List Task) (m : ℕ) (t : List ℕ) where
 
 -- and answers 0 exactly if `check_table` finds the table valid
 pub from_valid : (ts : List Task) (m : ℕ) (t : List ℕ) (r : ℕ) → XiphomeraCheck ts m t r → (r ≡ 0) ↔ Checks ts m t (Ok None)
-unfolding check_number checked_as
+unfolding check_number
 from_valid ts m t r call = (λ z. sym (none (check m ts t) (sym call ∙ z)), λ v. call ∙ ap check_number (sym v))
   where
     none : (x : Checked) → check_number x ≡ 0 → x ≡ checked no_fault
@@ -237,8 +237,8 @@ step_there p tick = go (due p tick) (step_named (step_of p tick))
 
     go : (k : ℕ) → (k ≢ 0 → number_of (refusal_from k) ≡ k)
         → (a : Result Shown Refusal) × (answered_as a ≡ answer_or (next k).verdict (record { verdict = 0; cells = cells_of (stored p (next k)); missed = (next k).missed }))
-    go zero n = shown_there _ refl 0 n
-    go (suc k) n = shown_there _ refl (suc k) n
+    go zero n = shown_there (record { verdict = 0; cells = cells_of (stored p (next 0)); missed = (next 0).missed }) refl 0 n
+    go (suc k) n = shown_there (record { verdict = 0; cells = cells_of (stored p (next (suc k))); missed = 0 }) refl (suc k) n
 
 pub from_step : (p : Player) (tick r : ℕ) (cells : List ℕ) (p' : Player) → XiphomeraStep p tick r cells p'
     → (a : Result Shown Refusal) × Step p tick (answered_as a) p' × Reads r cells (answered_as a)

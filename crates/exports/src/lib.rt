@@ -68,6 +68,7 @@ fn packed(class: u64, a: u16, b: u16, c: u8) -> u64
 
 // Tells what the checker answers: class * 2^48 + a * 2^32 + b * 2^16 + c.
 // Class 0 is valid; 1 a faulty cell: slot, core, kind; 2 a faulty job: task, job, kind; 3 a refusal: 0, 0, its number.
+#[tactic(auto, unfolding(crate::specs::Packed::check_number))]
 fn tell_check(answer: Result<Option<Fault>, Refusal>) -> u64
     ensures { result ≡ check_number (checked_as answer) }
 {

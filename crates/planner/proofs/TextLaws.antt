@@ -1,8 +1,7 @@
 -- What is written is the answer to the text: the size of its table, its verdict and its lines.
 -- Assumes nothing.
-use Prim.Native.Nat.{ℕ, zero, suc, ◌*◌, ◌≤◌}
+use Prim.Native.Nat.{ℕ, ◌*◌, ◌≤◌}
 use native.Mathlib.Omega.{arith}
-use native.Mathlib.Decide.{ℕ_discrete}
 use native.Mathlib.Nat.{mul-le-mul}
 use mathlib.Core.Path.{◌≡◌, refl, sym, ap, subst₂, ◌∙◌}
 use mathlib.Core.Logic.{◌≢◌}
@@ -10,7 +9,7 @@ use mathlib.Core.Bool.{Bool, true, false, cond, ◌&&◌}
 use mathlib.Core.List.{List, []}
 use lib.Dec.{leb}
 use lib.ListN.{length, drop, replicate, length-append}
-use borrow.Author.Tests.{eq-eqb, ne_eqb, le-leb}
+use borrow.Author.Tests.{ne_eqb, le-leb}
 use Rattle.laws.specs.Sum.{gate}
 use Rattle.laws.specs.Lists.{over}
 use Rattle.std.specs.Prelude.{Result, Ok, Err}
@@ -22,9 +21,9 @@ use Rattle.tasks.specs.Told.{number_of, tested_as}
 use Rattle.tasks.proofs.SoundLaws.{sound_list}
 use Rattle.tasks.proofs.RefusalLaws.{some_number}
 use Rattle.tasks.proofs.AnswerLaws.{or_first, tested_sound, tested_refused}
-use Rattle.rules.specs.Search.{Searched, search_refusal, search}
+use Rattle.rules.specs.Search.{search_refusal, search}
 use Rattle.rules.proofs.Told.{refused_told}
-use Rattle.frames.specs.Read.{Read, refused, problem, read_problem}
+use Rattle.frames.specs.Read.{refused, problem, read_problem}
 use Rattle.answer.specs.Write.{slot_lines, write_answer, can_write, Written}
 use Rattle.search.specs.declared.Answer.{Answer}
 use Rattle.search.specs.Told.{verdict_of, searched_as}

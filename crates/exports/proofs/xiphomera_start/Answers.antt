@@ -7,5 +7,5 @@ use Rattle.exports.proofs.xiphomera_start.Goals as goal
 
 pub returns : goal.returns
 returns c =
-    let told = start_told _ _ _ _ _ _ _ c.narrow-m.ensures (c.start.ensures.answer, c.start.ensures.record) in
+    let told = start_told _ _ _ _ _ _ _ c.narrow-m.ensures c.start.ensures in
     (subst (ShownNumber c.tell.result c.tell.new.cells) told.0 c.tell.ensures, told.1)

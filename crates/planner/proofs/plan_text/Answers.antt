@@ -1,11 +1,24 @@
--- `planner::plan_text` meets its contract: the problem that was read is searched, and its answer is written.
+-- `planner::plan_text` meets its contract: what the plan tells is written.
 -- Assumes nothing.
-use native.Mathlib.Omega.{arith}
-use Rattle.planner.proofs.TextLaws.{can_refuse, can_write_all, refused_text, searched_text, written_as}
+use Rattle.std.proofs.Common.{ap, ◌∙◌}
+use Rattle.answer.specs.Write.{write_answer}
+use Rattle.planner.specs.Told.{planned_text}
+use Rattle.planner.proofs.TextLaws.{can_write_all, can_refuse, written_as}
 use Rattle.planner.proofs.plan_text.Goals as goal
 
-pub returns-then-refused : goal.returns-then-refused
-returns-then-refused c = written_as (can_refuse _ _) (refused_text _ _ _ c.read_problem-problem.ensures c.if-refused.true) c.write_answer.ensures
+pub returns-in-Ok-clause-room : goal.returns-in-Ok-clause-room
+returns-in-Ok-clause-room c = c.write_answer.ensures.can ∙ can_write_all _ _ _ _ c.in-Ok.ensures.size.0 c.in-Ok.ensures.size.1 c.plan.array_long
 
-pub returns : goal.returns
-returns c = written_as (can_write_all _ _ _ _ _ c.table_size-size.ensures c.search-answer.auto.table) (searched_text _ _ _ _ _ c.read_problem-problem.ensures (omega (arith, c.if-refused.false)) c.table_size-size.ensures c.search-answer.ensures) c.write_answer-2.ensures
+pub returns-in-Ok-clause-written : goal.returns-in-Ok-clause-written
+unfolding planned_text
+returns-in-Ok-clause-written c =
+    written_as (can_write_all _ _ _ _ c.in-Ok.ensures.size.0 c.in-Ok.ensures.size.1 c.plan.array_long)
+    (ap (λ v. write_answer v c.in-Ok.planned.answer.tries c.in-Ok.planned.slots.0 c.in-Ok.planned.m c.plan.new.table) c.from.ensures ∙ c.in-Ok.ensures.text) c.write_answer.ensures.written
+
+pub returns-in-Err-clause-room : goal.returns-in-Err-clause-room
+returns-in-Err-clause-room c = c.write_answer-in-Err.ensures.can ∙ can_refuse _ _
+
+pub returns-in-Err-clause-written : goal.returns-in-Err-clause-written
+unfolding planned_text
+returns-in-Err-clause-written c =
+    written_as (can_refuse _ _) (ap (λ v. write_answer v 0 0 0 c.plan.new.table) c.from-in-Err.ensures ∙ c.in-Err.ensures.text) c.write_answer-in-Err.ensures.written
