@@ -1,5 +1,7 @@
 // The walk's grid, filled once for a search: all that the walk reads of a list but its work; and how it is read.
 //
+// `OnGrid` is asked where it is needed and is no invariant of the type: `rate`, `bars_idle` and `floor` read any grid.
+//
 // A set is one number of crate `sets`. For the plain engine rule A's set is empty and no cores are marked as twins.
 // Tasks and cores count from 0 here.
 // Beside the grid stands `left`, the work left of each job at its counter, job * 16 + task; its last place, 16384, is the

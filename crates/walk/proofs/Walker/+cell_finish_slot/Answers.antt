@@ -41,7 +41,11 @@ cell-loop-rest-smaller-then-starves t c =
 
 pub cell-loop-rest-preserved-then-starves : goal.cell-loop-rest-preserved-then-starves
 cell-loop-rest-preserved-then-starves t c =
-    let s = starves_tells _ _ (sym c.starves.ensures ∙ c.if-starves.true) in (record { grid = c.loop-rest.invariant.0.grid; table = c.loop-rest.invariant.0.table; left = c.loop-rest.invariant.0.left }, passes c.loop-rest.invariant.1 c.loop-rest-test.true c.lowest-task.ensures c.without-rest.ensures c.if-self.false c.counter-counter.ensures.0 c.due-due.ensures s.1 s.2)
+    let s = starves_tells _ _ (sym c.starves.ensures ∙ c.if-starves.true) in (
+      record { grid = c.loop-rest.invariant.0.grid; table = c.loop-rest.invariant.0.table; left = c.loop-rest.invariant.0.left },
+      passes c.loop-rest.invariant.1 c.loop-rest-test.true c.lowest-task.ensures c.without-rest.ensures c.if-self.false
+          c.counter-counter.ensures.0 c.due-due.ensures s.1 s.2,
+    )
 
 pub cell-rate-requires : goal.cell-rate-requires
 cell-rate-requires t c =
@@ -52,8 +56,10 @@ cell-without-requires t c =
     task_few c.loop-rest.invariant.1 c.loop-rest-test.true c.lowest-task.ensures
 
 pub cell-finish_slot-end-requires : goal.cell-finish_slot-end-requires
-cell-finish_slot-end-requires t c =
-    (omega (arith, c.decreases, ap (λ b. cells_left b.now c.args.slot c.args.core) c.loop-rest.invariant.0.grid), stands_same (sym (ap (λ b. b.now) c.loop-rest.invariant.0.grid)) (stands_without c.requires (task_few c.loop-rest.invariant.1 c.loop-rest-test.true c.lowest-task.ensures) c.without.ensures))
+cell-finish_slot-end-requires t c = (
+  omega (arith, c.decreases, ap (λ b. cells_left b.now c.args.slot c.args.core) c.loop-rest.invariant.0.grid),
+  stands_same (sym (ap (λ b. b.now) c.loop-rest.invariant.0.grid)) (stands_without c.requires (task_few c.loop-rest.invariant.1 c.loop-rest-test.true c.lowest-task.ensures) c.without.ensures),
+)
 
 pub cell-loop-rest-smaller : goal.cell-loop-rest-smaller
 cell-loop-rest-smaller t c =
@@ -63,7 +69,8 @@ pub cell-returns-in-Found : goal.cell-returns-in-Found
 cell-returns-in-Found t c =
     record {
       same = loans_on c.finish_slot-end.ensures.same (record { grid = c.loop-rest.invariant.0.grid; table = c.loop-rest.invariant.0.table; left = c.loop-rest.invariant.0.left });
-      ran = ends c.loop-rest.invariant.1 c.loop-rest-test.true c.lowest-task.ensures c.without-rest.ensures c.if-self.false c.counter-counter.ensures.0 c.rate.ensures c.put-had.ensures.0 c.put-had.ensures.1 c.without.ensures
+      ran = ends c.loop-rest.invariant.1 c.loop-rest-test.true c.lowest-task.ensures c.without-rest.ensures c.if-self.false
+          c.counter-counter.ensures.0 c.rate.ensures c.put-had.ensures.0 c.put-had.ensures.1 c.without.ensures
           (ran_after_same (ap (λ b. b.now) c.loop-rest.invariant.0.grid) c.finish_slot-end.ensures.ran)
           (⊎_elim (λ f z. found_apart (sym f ∙ z)) (λ s z. stopped_apart (sym s ∙ z)) c.in-Found.is);
     }
@@ -72,7 +79,8 @@ pub cell-loop-rest-preserved : goal.cell-loop-rest-preserved
 cell-loop-rest-preserved t c =
     let k = loans_on {a = c.args.self.now} c.finish_slot-end.ensures.same (record { grid = c.loop-rest.invariant.0.grid; table = c.loop-rest.invariant.0.table; left = c.loop-rest.invariant.0.left }) in (
       record { grid = k.grid; table = k.table; left = k.left },
-      backs c.loop-rest.invariant.1 c.loop-rest-test.true c.lowest-task.ensures c.without-rest.ensures c.if-self.false c.counter-counter.ensures.0 c.rate.ensures c.put-had.ensures.0 c.put-had.ensures.1 c.without.ensures
+      backs c.loop-rest.invariant.1 c.loop-rest-test.true c.lowest-task.ensures c.without-rest.ensures c.if-self.false
+          c.counter-counter.ensures.0 c.rate.ensures c.put-had.ensures.0 c.put-had.ensures.1 c.without.ensures
           (ran_after_same (ap (λ b. b.now) c.loop-rest.invariant.0.grid) c.finish_slot-end.ensures.ran) c.in-NoneFound.is refl,
     )
 
@@ -86,11 +94,13 @@ cell-returns-then-self-2-clause-ran t c =
 
 pub cell-returns-then-is_some-clause-ran : goal.cell-returns-then-is_some-clause-ran
 cell-returns-then-is_some-clause-ran t c =
-    let s = some_there _ (sym c.is_some.ensures ∙ c.if-is_some.true) in idle_starves c.loop-rest.invariant.1 c.loop-rest-test.false c.bars_idle.ensures c.if-bars_idle.false c.if-self-2.false c.due-due.ensures s.1
+    let s = some_there _ (sym c.is_some.ensures ∙ c.if-is_some.true) in
+    idle_starves c.loop-rest.invariant.1 c.loop-rest-test.false c.bars_idle.ensures c.if-bars_idle.false c.if-self-2.false c.due-due.ensures s.1
 
 pub cell-returns-clause-ran : goal.cell-returns-clause-ran
 cell-returns-clause-ran t c =
-    idles c.loop-rest.invariant.1 c.loop-rest-test.false c.bars_idle.ensures c.if-bars_idle.false c.if-self-2.false (ran_after_same (ap (λ b. b.now) c.loop-rest.invariant.0.grid) c.finish_slot.ensures.ran)
+    idles c.loop-rest.invariant.1 c.loop-rest-test.false c.bars_idle.ensures c.if-bars_idle.false c.if-self-2.false
+    (ran_after_same (ap (λ b. b.now) c.loop-rest.invariant.0.grid) c.finish_slot.ensures.ran)
 
 pub finish_slot-returns-then-core-from-clause-ran : goal.finish_slot-returns-then-core-from-clause-ran
 finish_slot-returns-then-core-from-clause-ran t c =
@@ -98,16 +108,21 @@ finish_slot-returns-then-core-from-clause-ran t c =
 
 pub finish_slot-returns-then-is_some-clause-ran : goal.finish_slot-returns-then-is_some-clause-ran
 finish_slot-returns-then-is_some-clause-ran t c =
-    let s = some_there _ (sym c.is_some.ensures ∙ c.if-is_some.true) in starved c.requires (omega (arith, c.from.ensures, c.if-core-from.false)) (sym c.first_due.ensures ∙ s.1)
+    let s = some_there _ (sym c.is_some.ensures ∙ c.if-is_some.true) in
+    starved c.requires (omega (arith, c.from.ensures, c.if-core-from.false)) (sym c.first_due.ensures ∙ s.1)
 
 pub finish_slot-cell-requires-then-slot-from : goal.finish_slot-cell-requires-then-slot-from
-finish_slot-cell-requires-then-slot-from t c =
-    (omega (arith, slot_left c.requires (omega (arith, c.from.ensures, c.if-core-from.false)) (omega (arith, c.from-2.ensures, c.if-slot-from.true))), stands_slot c.requires (omega (arith, c.from-2.ensures, c.if-slot-from.true)) _ c.enter-sets.ensures)
+finish_slot-cell-requires-then-slot-from t c = (
+  omega (arith, slot_left c.requires (omega (arith, c.from.ensures, c.if-core-from.false)) (omega (arith, c.from-2.ensures, c.if-slot-from.true))),
+  stands_slot c.requires (omega (arith, c.from-2.ensures, c.if-slot-from.true)) _ c.enter-sets.ensures,
+)
 
 pub finish_slot-returns-then-slot-from-clause-ran : goal.finish_slot-returns-then-slot-from-clause-ran
 finish_slot-returns-then-slot-from-clause-ran t c =
-    next_slots c.requires (omega (arith, c.from.ensures, c.if-core-from.false)) (sym c.first_due.ensures ∙ None-if_not_some _ (sym c.is_some.ensures ∙ c.if-is_some.false)) (omega (arith, c.from-2.ensures, c.if-slot-from.true)) c.enter-sets.ensures c.cell-then-slot-from.ensures.ran
+    next_slots c.requires (omega (arith, c.from.ensures, c.if-core-from.false))
+    (sym c.first_due.ensures ∙ None-if_not_some _ (sym c.is_some.ensures ∙ c.if-is_some.false)) (omega (arith, c.from-2.ensures, c.if-slot-from.true)) c.enter-sets.ensures c.cell-then-slot-from.ensures.ran
 
 pub finish_slot-returns-clause-ran : goal.finish_slot-returns-clause-ran
 finish_slot-returns-clause-ran t c =
-    founds c.requires (omega (arith, c.from.ensures, c.if-core-from.false)) (sym c.first_due.ensures ∙ None-if_not_some _ (sym c.is_some.ensures ∙ c.if-is_some.false)) (omega (arith, c.from-2.ensures, c.if-slot-from.false))
+    founds c.requires (omega (arith, c.from.ensures, c.if-core-from.false))
+    (sym c.first_due.ensures ∙ None-if_not_some _ (sym c.is_some.ensures ∙ c.if-is_some.false)) (omega (arith, c.from-2.ensures, c.if-slot-from.false))
