@@ -135,14 +135,13 @@ pub fn put_frame(out: &mut [u8], frame: &[u8]) -> usize
     requires { length frame.now * 2 + 1 ≤ length out.old }
     ensures { (result ≡ length frame.now * 2 + 1) × (out.new ≡ over (line_of frame.now) out.old) }
 {
-    let mut next = 0;
-    for byte in frame {
-        out[next] = hex(*byte / 16);
-        out[next + 1] = hex(*byte % 16);
-        next += 2;
+    for (k, byte) in frame.iter().enumerate() {
+        out[k * 2] = hex(byte / 16);
+        out[k * 2 + 1] = hex(byte % 16);
     }
-    out[next] = b'\n';
-    next + 1
+    let end = frame.len() * 2;
+    out[end] = b'\n';
+    end + 1
 }
 
 // The kind of a frame of so many bytes; refusals 22 and 23, and 24 for a kind of an answer.
