@@ -109,12 +109,13 @@ fn byte_of(high: u8, low: u8) -> Option<u8>
 fn read_bytes(digits: &[u8]) -> Option<[u8; 10]>
     ensures { result ≡ then_some (pairs digits.now) (ten_bytes (bytes_of digits.now)) }
 {
-    if digits.len() % 2 != 0 {
+    let (pairs, rest) = digits.as_chunks::<2>();
+    if !rest.is_empty() {
         return None;
     }
     let mut bytes = [0; 10];
-    for k in 0..digits.len() / 2 {
-        let byte = byte_of(digits[k * 2], digits[k * 2 + 1])?;
+    for (k, [high, low]) in pairs.iter().enumerate() {
+        let byte = byte_of(*high, *low)?;
         if k < 10 {
             bytes[k] = byte;
         }
