@@ -17,27 +17,26 @@ unfolding digits
 digits_append [] g = refl
 digits_append (b ∷ f) g = rw (digits_append f g)
 
-module _ (frame out₀ : List ℕ) (room : length frame * 2 + 1 ≤ length out₀) (k next : ℕ) (out : List ℕ) (q : next ≡ k * 2)
-    (e : out ≡ over (digits (take k frame)) out₀) where
+module _ (frame out₀ : List ℕ) (room : length frame * 2 + 1 ≤ length out₀) (k : ℕ) (out : List ℕ) (e : out ≡ over (digits (take k frame)) out₀) where
   abbrev passed : List ℕ
   passed = digits (take k frame)
 
-  size : k ≤ length frame → length passed ≡ next
-  size l = digits_length (take k frame) ∙ ap (λ n. n * 2) (length-take-le k frame l) ∙ sym q
+  size : k ≤ length frame → length passed ≡ k * 2
+  size l = digits_length (take k frame) ∙ ap (λ n. n * 2) (length-take-le k frame l)
 
   -- one more byte of a frame
   pub one_byte : (high low : ℕ) → k < length frame → high ≡ hex_of (nth frame k / 16) → low ≡ hex_of (nth frame k % 16)
-      → set (set out next high) (next + 1) low ≡ over (digits (take (k + 1) frame)) out₀
+      → set (set out (k * 2) high) (k * 2 + 1) low ≡ over (digits (take (k + 1) frame)) out₀
   unfolding digits
   one_byte high low l h h' =
-      ap (λ o. set (set o next high) (next + 1) low) e ∙ ap (λ n. set (set (over passed out₀) n high) (next + 1) low) (sym s)
-      ∙ ap (λ o. set o (next + 1) low) (over_more passed out₀ high (omega (arith, s))) ∙ ap (λ n. set (over (passed ++ (high ∷ [])) out₀) n low) (sym s')
+      ap (λ o. set (set o (k * 2) high) (k * 2 + 1) low) e ∙ ap (λ n. set (set (over passed out₀) n high) (k * 2 + 1) low) (sym s)
+      ∙ ap (λ o. set o (k * 2 + 1) low) (over_more passed out₀ high (omega (arith, s))) ∙ ap (λ n. set (over (passed ++ (high ∷ [])) out₀) n low) (sym s')
       ∙ over_more (passed ++ (high ∷ [])) out₀ low (omega (arith, s')) ∙ ap (λ d. over d out₀) whole
     where
-      s : length passed ≡ next
+      s : length passed ≡ k * 2
       s = size (omega arith)
 
-      s' : length (passed ++ (high ∷ [])) ≡ next + 1
+      s' : length (passed ++ (high ∷ [])) ≡ k * 2 + 1
       s' = length-append passed (high ∷ []) ∙ ap (λ n. n + 1) s
 
       whole : (passed ++ (high ∷ [])) ++ (low ∷ []) ≡ digits (take (k + 1) frame)
@@ -46,9 +45,9 @@ module _ (frame out₀ : List ℕ) (room : length frame * 2 + 1 ≤ length out�
           ∙ ap digits (sym (take-suc frame k 0 l) ∙ ap (λ n. take n frame) (sym (add-one k)))
 
   -- and the line feed behind the last
-  pub line_feed : k ≡ length frame → set out next 10 ≡ over (line_of frame) out₀
+  pub line_feed : k ≡ length frame → set out (length frame * 2) 10 ≡ over (line_of frame) out₀
   unfolding line_of
   line_feed r =
-      let s = size (omega arith) in
-      ap (λ o. set o next 10) e ∙ ap (λ n. set (over passed out₀) n 10) (sym s) ∙ over_more passed out₀ 10 (omega (arith, s))
+      let s : length passed ≡ length frame * 2 = size (omega arith) ∙ ap (λ n. n * 2) r in
+      ap (λ o. set o (length frame * 2) 10) e ∙ ap (λ n. set (over passed out₀) n 10) (sym s) ∙ over_more passed out₀ 10 (omega (arith, s))
       ∙ ap (λ f. over (digits f ++ (10 ∷ [])) out₀) (take_all k frame (omega arith))

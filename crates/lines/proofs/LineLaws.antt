@@ -11,10 +11,11 @@ use borrow.Author.Tests.{lt-ltb, le-ltb, eq-eqb, ne_eqb}
 use lib.Dec.{ltb, leb-suc-suc}
 use lib.ListN.{length, set, take, drop, length-take, length-append, get_or-eq_default, get_or-append, drop_of_length-le}
 use lib.Seq.{take_all, get_or-take, drop-append_seam}
-use Rattle.std.proofs.Common.{◌-◌, min, pred, nat_eq, drop-cons, get_or-drop, Bor, Option, None, Some, MatchOption}
+use Rattle.std.proofs.Common.{◌-◌, min, pred, nat_eq, drop-cons, get_or, get_or-drop, Bor, Option, None, Some, MatchOption}
 use Rattle.std.proofs.lemmas.List.{take-append-le}
 use Rattle.std.specs.Bool.{then_some}
 use Rattle.std.proofs.lemmas.Option.{none-some, same_Some}
+use Rattle.std.specs.Simd.{first_chunks}
 use Rattle.std.specs.Cmp.Lexicographic.{pointwise, same_text, other_text}
 use native.Mathlib.Nat.{add-zero}
 use Rattle.laws.specs.Lists.{nth}
@@ -140,6 +141,17 @@ digits_more n s d a b k l = elim (ℕ_discrete k n) [
   | yes e ↦ ap (λ j. is_digit (nth s j)) e ∙ a
   | no x ↦ elim (ℕ_discrete k (n + 1)) [ yes e ↦ ap (λ j. is_digit (nth s j)) e ∙ b | no y ↦ d k (omega arith) ]
 ]
+
+-- the digits of a pair
+pub pair_at : (s : List ℕ) (n k : ℕ) → k < n
+    → (nth (get_or (first_chunks 2 n s) k []) 0 ≡ nth s (k * 2)) × (nth (get_or (first_chunks 2 n s) k []) 1 ≡ nth s (k * 2 + 1))
+pair_at s zero k l = absurd (omega arith)
+pair_at s (suc n) zero l = (get_or-take 2 s 0 0 (omega arith), get_or-take 2 s 1 0 (omega arith))
+pair_at s (suc n) (suc k) l =
+    let p = pair_at (drop 2 s) n k (omega arith) in
+    let first : 2 + k * 2 ≡ suc k * 2 = omega arith in
+    let second : 2 + (k * 2 + 1) ≡ suc k * 2 + 1 = omega arith in
+    (p.0 ∙ get_or-drop 2 s (k * 2) 0 ∙ ap (nth s) first, p.1 ∙ get_or-drop 2 s (k * 2 + 1) 0 ∙ ap (nth s) second)
 
 -- half as many bytes as digits
 pub bytes_length : (s : List ℕ) → length (bytes_of s) ≡ length s / 2

@@ -109,12 +109,13 @@ fn byte_of(high: u8, low: u8) -> Option<u8>
 fn read_bytes(digits: &[u8]) -> Option<[u8; 10]>
     ensures { result ≡ then_some (pairs digits.now) (ten_bytes (bytes_of digits.now)) }
 {
-    if digits.len() % 2 != 0 {
+    let (pairs, rest) = digits.as_chunks::<2>();
+    if !rest.is_empty() {
         return None;
     }
     let mut bytes = [0; 10];
-    for k in 0..digits.len() / 2 {
-        let byte = byte_of(digits[k * 2], digits[k * 2 + 1])?;
+    for (k, [high, low]) in pairs.iter().enumerate() {
+        let byte = byte_of(*high, *low)?;
         if k < 10 {
             bytes[k] = byte;
         }
@@ -135,14 +136,13 @@ pub fn put_frame(out: &mut [u8], frame: &[u8]) -> usize
     requires { length frame.now * 2 + 1 ≤ length out.old }
     ensures { (result ≡ length frame.now * 2 + 1) × (out.new ≡ over (line_of frame.now) out.old) }
 {
-    let mut next = 0;
-    for byte in frame {
-        out[next] = hex(*byte / 16);
-        out[next + 1] = hex(*byte % 16);
-        next += 2;
+    for (k, byte) in frame.iter().enumerate() {
+        out[k * 2] = hex(byte / 16);
+        out[k * 2 + 1] = hex(byte % 16);
     }
-    out[next] = b'\n';
-    next + 1
+    let end = frame.len() * 2;
+    out[end] = b'\n';
+    end + 1
 }
 
 // The kind of a frame of so many bytes; refusals 22 and 23, and 24 for a kind of an answer.

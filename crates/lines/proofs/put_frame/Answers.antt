@@ -6,15 +6,12 @@ use Rattle.lines.specs.Lines.{digits}
 use Rattle.lines.proofs.DigitLaws.{one_byte, line_feed}
 use Rattle.lines.proofs.put_frame.Goals as goal
 
-pub loop-byte-init : goal.loop-byte-init
+pub loop-k-init : goal.loop-k-init
 unfolding over digits
-loop-byte-init c = (refl, refl)
+loop-k-init c = refl
 
-pub loop-byte-preserved : goal.loop-byte-preserved
-loop-byte-preserved c = (
-  omega arith,
-  one_byte _ _ c.requires _ _ _ c.loop-byte.invariant.0 c.loop-byte.invariant.1 _ _ c.loop-byte-test.true c.hex.ensures c.hex-in-loop-byte.ensures,
-)
+pub loop-k-preserved : goal.loop-k-preserved
+loop-k-preserved c = one_byte _ _ c.requires c.loop-k.k _ c.loop-k.invariant _ _ (omega arith) c.hex.ensures c.hex-in-loop-k.ensures
 
 pub returns : goal.returns
-returns c = (omega arith, line_feed _ _ c.requires _ _ _ c.loop-byte.invariant.0 c.loop-byte.invariant.1 (omega arith))
+returns c = (refl, line_feed _ _ c.requires c.loop-k.k _ c.loop-k.invariant (omega arith))
