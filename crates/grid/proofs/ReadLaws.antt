@@ -1,6 +1,6 @@
 -- The tests of the walk on its arrays, as its loops find them.
 -- Assumes nothing.
-use Prim.Native.Nat.{ℕ, zero, suc, ◌+◌, ◌*◌, ◌-◌, ◌/◌, ◌%◌, ◌^◌, ◌≤◌, ◌<◌, max}
+use Prim.Native.Nat.{ℕ, zero, suc, ◌+◌, ◌*◌, ◌-◌, ◌%◌, ◌^◌, ◌≤◌, ◌<◌, max}
 use native.Mathlib.Omega.{arith}
 use native.Mathlib.Numerals.{add-one}
 use native.Mathlib.Decide.{ℕ_discrete}
@@ -10,6 +10,7 @@ use mathlib.Core.Logic.{◌≢◌, ⊎_elim}
 use mathlib.Core.Bool.{Bool, true, false, not, cond, ◌&&◌, true≢false}
 use mathlib.Core.List.{List}
 use Rattle.std.specs.Prelude.{Option, None, Some}
+use Rattle.std.specs.Int.{from_bool}
 use Rattle.std.proofs.lemmas.Option.{none-some, same_Some}
 use lib.Dec.{leb, ltb, eqb}
 use lib.ListN.{set}
@@ -89,11 +90,11 @@ module _ (grid : Grid) (t : List ℕ) (first core j : ℕ) where
       rank_same (suc y) h = refl
 
 -- ---- work left
--- 1 if there is some, by reckoning
-pub some_is : (w : ℕ) → w < 65536 → ((w + 65535) / 65536 ≡ gate (ltb 0 w) 1) × ((w + 65535) / 65536 ≤ 1)
+-- 1 if there is some
+some_is : (w : ℕ) → from_bool (not (eqb w 0)) ≡ gate (ltb 0 w) 1
 unfolding gate
-some_is zero l = (refl, omega arith)
-some_is (suc w) l = (omega (arith, gate_lt 0 (suc w) 1 (omega arith)), omega arith)
+some_is zero = refl
+some_is (suc w) = rw (ne_eqb (suc w) 0 (λ z. omega arith)) (sym (gate_lt 0 (suc w) 1 (omega arith)))
 
 -- ---- the sets of a slot
 module _ (grid : Grid) (l : List ℕ) (slot : ℕ) where
@@ -103,12 +104,12 @@ module _ (grid : Grid) (l : List ℕ) (slot : ℕ) where
   left_none_yet n e = let z : tasks_on grid - n ≡ 0 = omega arith in ap (λ j. left_from grid l slot j n) (sym z)
 
   -- a task more
-  pub left_more : (n v s b k : ℕ) → v < tasks_on grid → s ≡ left_from grid l slot (tasks_on grid - n) n → n ≡ suc v → k ≡ counter_on grid slot v → b ≡ gate (ltb 0 (nth l k)) 1
+  pub left_more : (n v s b k : ℕ) → v < tasks_on grid → s ≡ left_from grid l slot (tasks_on grid - n) n → n ≡ suc v → k ≡ counter_on grid slot v → b ≡ from_bool (not (eqb (nth l k) 0))
       → pushed s b ≡ left_from grid l slot (tasks_on grid - v) v
   unfolding left_from
   left_more n v s b k lv es en ek eb =
       let more : tasks_on grid - v ≡ suc (tasks_on grid - n) = omega arith in
-      ap₂ pushed (es ∙ ap (left_from grid l slot (tasks_on grid - n)) en) (eb ∙ ap (λ x. gate (ltb 0 (nth l x)) 1) ek) ∙ ap (λ j. left_from grid l slot j v) (sym more)
+      ap₂ pushed (es ∙ ap (left_from grid l slot (tasks_on grid - n)) en) (eb ∙ some_is (nth l k) ∙ ap (λ x. gate (ltb 0 (nth l x)) 1) ek) ∙ ap (λ j. left_from grid l slot j v) (sym more)
 
   -- all tasks
   left_all : (n s : ℕ) → n ≡ 0 → s ≡ left_from grid l slot (tasks_on grid - n) n → s ≡ left_from grid l slot (tasks_on grid) 0

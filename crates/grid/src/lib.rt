@@ -31,14 +31,6 @@ pub struct Grid {
     pub slots: u16,
 }
 
-// 1 if there is work, else 0: reckoned, since a branch on it would be foreseen badly.
-#[tactic(auto, using(crate::proofs::ReadLaws::some_is))]
-fn some(work: Work) -> u64
-    ensures { (result ≡ gate (ltb 0 work.0) 1) × (result ≤ 1) }
-{
-    (u64::from(work.0) + 65535) / 65536
-}
-
 impl Grid {
     // The counter of the work left of a task's job in a slot.
     pub fn counter(&self, slot: usize, task: usize) -> usize
@@ -65,7 +57,7 @@ impl Grid {
         let mut set: u64 = 0;
         for task in (0..usize::from(self.tasks)).rev() {
             let work = Work(left[self.counter(slot, task)]);
-            set = sets::pushed(set, some(work));
+            set = sets::pushed(set, u64::from(work.0 != 0));
         }
         sets::common(sets::on_cores(set), self.rated)
     }
@@ -88,11 +80,10 @@ impl Grid {
         if !self.twins[core * 4 + j] {
             return 0;
         }
-        let value = table[first + j];
-        if value == 0 {
-            return usize::from(self.tasks) + 1;
+        match table[first + j] {
+            0 => usize::from(self.tasks) + 1,
+            task => usize::from(task),
         }
-        usize::from(value)
     }
 
     // The rank below which rule B bars a value: the highest on an earlier twin.

@@ -5,6 +5,7 @@ ghost use Rattle.std.specs.Prelude.{◌≡◌, ◌*◌, ◌^◌, ◌<◌};
 ghost use Rattle.sets.specs.Sets.{of_core, lowest as lowest_of, without as without_of, pushed as pushed_of, common as common_of, on_cores, from_rank};
 
 // The set of a core, as the set of core 0, alone.
+#[tactic(auto, unfolding(crate::specs::Sets::of_core))]
 pub fn of_core(sets: u64, core: usize) -> u64
     requires { core < 4 }
     ensures { result ≡ of_core sets core }
@@ -13,10 +14,11 @@ pub fn of_core(sets: u64, core: usize) -> u64
 }
 
 // The lowest task of a set of core 0.
+#[tactic(auto, unfolding(crate::specs::Sets::lowest))]
 pub fn lowest(set: u64) -> usize
     ensures { result ≡ lowest_of set }
 {
-    u64::trailing_zeros(set) as usize / 4
+    set.trailing_zeros() as usize / 4
 }
 
 // The sets without a task.
@@ -28,6 +30,7 @@ pub fn without(sets: u64, task: usize) -> u64
 }
 
 // The sets with each task one number higher, and the cores of a new task 0.
+#[tactic(auto, unfolding(crate::specs::Sets::pushed))]
 pub fn pushed(sets: u64, cores: u64) -> u64
     requires { (sets < 2 ^ 60) × (cores < 16) }
     ensures { result ≡ pushed_of sets cores }
@@ -36,6 +39,7 @@ pub fn pushed(sets: u64, cores: u64) -> u64
 }
 
 // The tasks that are in both, core by core.
+#[tactic(auto, unfolding(crate::specs::Sets::common))]
 pub fn common(a: u64, b: u64) -> u64
     ensures { result ≡ common_of a b }
 {
@@ -43,6 +47,7 @@ pub fn common(a: u64, b: u64) -> u64
 }
 
 // The sets with each task of a set of core 0, alone, on all four cores.
+#[tactic(auto, unfolding(crate::specs::Sets::on_cores))]
 pub fn on_cores(set: u64) -> u64
     requires { 15 * set < 2 ^ 64 }
     ensures { result ≡ on_cores set }

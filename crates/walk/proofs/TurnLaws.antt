@@ -20,9 +20,10 @@ use Rattle.sets.proofs.SetLaws.{none_has, of_core_has, of_core_alone, of_core_lt
 use Rattle.grid.proofs.ReadLaws.{at_slot, sets_none, due_starves, due_still, none_starved, due_only_last}
 use Rattle.grid.specs.declared.Grid.{Grid}
 use Rattle.grid.specs.Grid.{counter_on, rate_on, tasks_on, cores_on, slots_on, cells_on, sets_on, bars_idle, floor_on, all_settled_on, first_due_on, due_on, OnGrid}
+use Rattle.walk.specs.declared.Walker.{Walker}
 use Rattle.walk.specs.declared.End.{End}
 use Rattle.walk.specs.declared.End.TheVariants.{Found, NoneFound, Stopped}
-use Rattle.walk.specs.Machine.{State, state, Onward, unless_ended, idle_last, placed, try_from, after_cell, walk_on, Stands, first_on, cells_left, full, Leaves, Ran, RanAfter}
+use Rattle.walk.specs.Machine.{State, state, Onward, unless_ended, idle_last, placed, try_from, after_cell, walk_on, Stands, first_on, cells_left, full, SameLoans, Leaves, Ran, RanAfter}
 use Rattle.walk.proofs.GiveBackLaws.{given_back, GivesBack, after_gives, walk_gives}
 
 -- ---- where the walk stands
@@ -30,10 +31,6 @@ module _ {grid : Grid} (slot : ℕ) (fits : OnGrid grid slot) where
   -- the slot's cells are among the table's
   pub slot_cells : first_on grid slot + cores_on grid ≤ cells_on grid
   slot_cells = omega (arith, mul-le-mul_right (cores_on grid) fits.slot_in)
-
-  -- and the table's are 4096 at most
-  pub in_table : {core : ℕ} → core < cores_on grid → first_on grid slot + core < 4096
-  in_table l = omega (arith, slot_cells, mul-le-mul_right (cores_on grid) fits.slots, fits.cores)
 
 -- a walk that has ended stays as it is
 pub ended_stays : (e : End) (r : State) (k : State → State) → (e ≡ NoneFound → ⊥) → unless_ended e r k ≡ r
@@ -343,10 +340,6 @@ module _ {grid : Grid} {slot core sets : ℕ} (stands : Stands grid slot core se
     within = λ v c n l. ap (λ s. has s v c) es ∙ without_has sets task v c lt l ∙ ap (λ b. not (eqb v task) && b) (stands.within v c n l) ∙ and-false (not (eqb v task));
   }
 
-  -- at the next core
-  pub stands_core : core + 1 < cores_on grid → Stands grid slot (core + 1) sets
-  stands_core h = record { fits = stands.fits; core_in = h; within = stands.within }
-
   -- at the next slot
   pub stands_slot : slot + 1 < slots_on grid → (l : List ℕ) {sets' : ℕ} → sets' ≡ sets_on grid l (slot + 1) → Stands grid (slot + 1) 0 sets'
   stands_slot h l es = record {
@@ -411,11 +404,6 @@ module _ {grid : Grid} {slot core sets : ℕ} {t l : List ℕ} {u : ℕ} (stands
             ran.leaves;
       }
 
--- the same with equal sets
-pub ran_same : {grid : Grid} {slot core sets sets' : ℕ} {t l : List ℕ} {u : ℕ} {e : End} {t' l' : List ℕ} {u' : ℕ} → sets' ≡ sets
-    → Ran grid slot core sets' t l u e t' l' u' → Ran grid slot core sets t l u e t' l' u'
-ran_same {grid} {slot} {core} {t = t} {l = l} {u = u} {e = e} {t' = t'} {l' = l'} {u' = u'} q = subst (λ s. Ran grid slot core s t l u e t' l' u') q
-
 -- the same with equal grids
 pub stands_same : {grid grid' : Grid} {slot core sets : ℕ} → grid ≡ grid' → Stands grid slot core sets → Stands grid' slot core sets
 stands_same {slot = slot} {core} {sets} q = subst (λ g. Stands g slot core sets) q
@@ -424,11 +412,12 @@ pub ran_after_same : {grid grid' : Grid} {slot core sets : ℕ} {t l : List ℕ}
     → RanAfter grid slot core sets t l u e t' l' u' → RanAfter grid' slot core sets t l u e t' l' u'
 ran_after_same {slot = slot} {core} {sets} {t} {l} {u} {e} {t'} {l'} {u'} q = subst (λ g. RanAfter g slot core sets t l u e t' l' u') q
 
--- ---- a value that is there, or not
+-- ---- a walker's loans
+-- the same, and again the same
+pub loans_on : {a b c : Walker} → SameLoans b c → SameLoans a b → SameLoans a c
+loans_on q p = record { grid = q.grid ∙ p.grid; table = q.table ∙ p.table; left = q.left ∙ p.left }
+
+-- a value that is there
 pub some_there : {A : Type 0} (o : Option A) → is_some o ≡ true → (x : A) × (o ≡ Some x)
 some_there None h = absurd (true≢false (sym h))
 some_there (Some x) h = (x, refl)
-
-pub none_there : {A : Type 0} (o : Option A) → is_some o ≡ false → o ≡ None
-none_there None h = refl
-none_there (Some x) h = absurd (true≢false h)

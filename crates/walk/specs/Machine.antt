@@ -5,6 +5,7 @@ use Rattle.laws.specs.Lists.{nth}
 use Rattle.sets.specs.Sets.{has, without}
 use Rattle.grid.specs.declared.Grid.{Grid}
 use Rattle.grid.specs.Grid.{rate_on, tasks_on, cores_on, slots_on, cells_on, counter_on, sets_on, bars_idle, floor_on, all_settled_on, OnGrid}
+use Rattle.walk.specs.declared.Walker.{Walker}
 use Rattle.walk.specs.declared.End.{End}
 use Rattle.walk.specs.declared.End.TheVariants.{Found, NoneFound, Stopped}
 
@@ -73,6 +74,12 @@ pub record Stands (grid : Grid) (slot core sets : ℕ) : Type 0 where
   pub fits : OnGrid grid slot
   pub core_in : core < cores_on grid
   pub within : (v c : ℕ) → tasks_on grid ≤ v → c < 4 → has sets v c ≡ false
+
+-- a walker's grid is the same, and it still has the same loans of a table and of the work left
+pub record SameLoans (old new : Walker) : Type 0 where
+  pub grid : new.grid ≡ old.grid
+  pub table : new.table.ghost_name ≡ old.table.ghost_name
+  pub left : new.left.ghost_name ≡ old.left.ghost_name
 
 -- the first cell of a slot
 abbrev pub first_on : Grid → ℕ → ℕ

@@ -6,7 +6,7 @@
 
 ghost use Rattle.std.specs.Prelude.{◌≡◌, ◌-◌, ◌≤◌, ◌<◌, set};
 ghost use Rattle.grid.specs.Grid.{sets_on, cores_on, OnGrid};
-ghost use Rattle.walk.specs.Machine.{Stands, Ran, RanAfter};
+ghost use Rattle.walk.specs.Machine.{Stands, SameLoans, Ran, RanAfter};
 ghost use Rattle.laws.specs.Lists.{nth};
 
 use grid::{Grid, starves};
@@ -56,10 +56,9 @@ impl Walker<'_> {
     #[cycle(cell_finish_slot)]
     fn cell(&mut self, slot: usize, core: usize, sets: u64) -> End
         requires { Stands self.old.grid.now slot core sets }
-        ensures same_grid { self.new.grid ≡ self.old.grid }
-        ensures same_table { self.new.table.ghost_name ≡ self.old.table.ghost_name }
-        ensures same_left { self.new.left.ghost_name ≡ self.old.left.ghost_name }
-        ensures ran { Ran self.old.grid.now slot core sets self.old.table.now self.old.left.now self.old.tries result self.new.table.now self.new.left.now self.new.tries }
+        ensures same { SameLoans self.old self.new }
+        ensures ran { Ran self.old.grid.now slot core sets self.old.table.now self.old.left.now self.old.tries
+            result self.new.table.now self.new.left.now self.new.tries }
     {
         let grid = self.grid;
         let first = slot * usize::from(grid.cores);
@@ -103,10 +102,9 @@ impl Walker<'_> {
     #[cycle(cell_finish_slot)]
     fn finish_slot(&mut self, slot: usize, core: usize, sets: u64) -> End
         requires { Stands self.old.grid.now slot core sets }
-        ensures same_grid { self.new.grid ≡ self.old.grid }
-        ensures same_table { self.new.table.ghost_name ≡ self.old.table.ghost_name }
-        ensures same_left { self.new.left.ghost_name ≡ self.old.left.ghost_name }
-        ensures ran { RanAfter self.old.grid.now slot core sets self.old.table.now self.old.left.now self.old.tries result self.new.table.now self.new.left.now self.new.tries }
+        ensures same { SameLoans self.old self.new }
+        ensures ran { RanAfter self.old.grid.now slot core sets self.old.table.now self.old.left.now self.old.tries
+            result self.new.table.now self.new.left.now self.new.tries }
     {
         if core + 1 < usize::from(self.grid.cores) {
             return self.cell(slot, core + 1, sets);

@@ -1,9 +1,8 @@
 -- The cells left fall: twice their number for `cell`, this one among them; one more than twice for `finish_slot`. The loop's invariant is where
 -- a turn stands, and its measure what is left of the tasks above the lowest. Assumes nothing.
 use Prim.Native.Nat.{suc, ◌+◌, ◌*◌, ◌-◌}
-use mathlib.Core.Path.{◌≡◌}
 use Rattle.sets.specs.Sets.{lowest}
-use Rattle.walk.specs.Machine.{cells_left}
+use Rattle.walk.specs.Machine.{cells_left, SameLoans}
 use Rattle.walk.proofs.TurnLaws.{Turn}
 use Rattle.walk.proofs.Walker.+cell_finish_slot.Given as goal
 
@@ -15,7 +14,7 @@ decreases-finish_slot l = 2 * cells_left l.self.now.grid.now l.slot l.core + 1
 
 abbrev pub invariant-cell-loop-rest : goal.invariant-cell-loop-rest
 invariant-cell-loop-rest l =
-    (l.self.grid ≡ l.fn.self.grid) × (l.self.table.ghost_name ≡ l.fn.self.table.ghost_name) × (l.self.left.ghost_name ≡ l.fn.self.left.ghost_name)
+    SameLoans l.fn.self l.self
     × Turn l.fn.self.grid.now l.slot l.core l.sets l.first l.fn.self.table.now l.fn.self.left.now l.fn.self.tries l.floor l.self.table.now l.self.left.now l.self.tries l.rest
 
 abbrev pub decreases-cell-loop-rest : goal.decreases-cell-loop-rest
