@@ -8,10 +8,11 @@ use mathlib.Core.List.{List}
 use Rattle.std.specs.Prelude.{None, Some, Result, Ok, Err}
 use Rattle.std.specs.Option.{ok_or}
 use native.Mathlib.Omega.{arith}
-use lib.Dec.{T, leb, le→leb}
+use lib.Dec.{T, leb, ltb, eqb, le→leb}
 use lib.ListN.{length}
 use borrow.Author.Tests.{lt-ltb, le-ltb, le-leb, lt-leb, eq-eqb, ne_eqb, not-true, not-false}
-use Rattle.laws.specs.Lists.{nth}
+use Rattle.laws.specs.Sum.{gate}
+use Rattle.laws.specs.Lists.{nth, seek}
 use Rattle.laws.specs.Lcm.{lcm_of, lcms_of}
 use Rattle.laws.proofs.ListLaws.{first_is, first_none}
 use Rattle.laws.proofs.TestLaws.{at_all}
@@ -25,7 +26,7 @@ use Rattle.tasks.specs.Task.{task}
 use Rattle.tasks.specs.Refusal.{most_rate, period_at, within, unless, or_next, rates_fit, task_refusal, list_refusal, table_length, refusal, IsSound, fits_if, length_of, sound, refused, tested_if, tested, Periods}
 use Rattle.tasks.specs.Told.{number_of, tested_as}
 use Rattle.tasks.proofs.SoundLaws.{rates_at, list_range}
-use Rattle.tasks.proofs.RefusalLaws.{some_number}
+use Rattle.tasks.proofs.RefusalLaws.{some_number, refusal_from, named}
 
 -- ---- ranges and rates
 -- the most that a rate may be on a core of the board
@@ -148,6 +149,43 @@ module _ (m : ℕ) (ts : List Task) (count : true ≡ within 1 16 (length ts)) (
       go : (b : Bool) → leb (table_length ts) 1024 ≡ b → tested_as (ok_or (fits_if b (table_length ts)) Length) ≡ tested m ts
       go true e = ap (λ k. tested_if k (table_length ts)) (goes_past 0 (or_next_lem _ _ _ _ none refl (ap (λ b. unless b 8 0) (sym e))))
       go false e = refused_answer_lem m ts Length (goes_past 8 (or_next_lem _ _ _ _ none refl (ap (λ b. unless b 8 0) (sym e))))
+
+-- ---- no refusal of a list is above 8
+-- a test that refuses by k
+unless_most : (b : Bool) {k next n : ℕ} → k ≤ n → next ≤ n → unless b k next ≤ n
+unfolding unless
+unless_most true a l = l
+unless_most false a l = a
+
+-- a task
+task_most : (m : ℕ) (τ : Task) → task_refusal m τ ≤ 8
+unfolding task_refusal
+task_most m τ = unless_most _ (omega arith) (unless_most _ (omega arith) (unless_most _ (omega arith) (unless_most _ (omega arith) (unless_most (rates_fit m τ.rates) (omega arith) (omega arith)))))
+
+-- the first of some tasks
+list_most : (m : ℕ) (ts : List Task) → list_refusal m ts ≤ 8
+unfolding list_refusal gate
+list_most m ts = go (ltb (seek (length ts) at) (length ts)) (seek (length ts) at)
+  where
+    at : ℕ → ℕ
+    at k = task_refusal m (task ts (suc k))
+
+    go : (b : Bool) (k : ℕ) → gate b (at k) ≤ 8
+    go true k = task_most m (task ts (suc k))
+    go false k = omega arith
+
+-- a list
+pub refusal_most : (m : ℕ) (ts : List Task) → refusal m ts ≤ 8
+unfolding refusal or_next
+refusal_most m ts = unless_most _ (omega arith) (unless_most _ (omega arith) (go (eqb (list_refusal m ts) 0)))
+  where
+    go : (b : Bool) → cond b (unless (leb (table_length ts) 1024) 8 0) (list_refusal m ts) ≤ 8
+    go true = unless_most _ {k = 8} {next = 0} (omega arith) (omega arith)
+    go false = list_most m ts
+
+-- so it is the number of a refusal
+pub list_named : (m : ℕ) (ts : List Task) → refusal m ts ≢ 0 → number_of (refusal_from (refusal m ts)) ≡ refusal m ts
+list_named m ts x = named (refusal m ts) x (omega (arith, refusal_most m ts))
 
 -- ---- what the answer of a list says
 module _ (m : ℕ) (ts : List Task) (s : Result Slots Refusal) (e : tested_as s ≡ tested m ts) where

@@ -1,6 +1,6 @@
 -- Refusals and their numbers.
 -- Assumes nothing.
-use Prim.Native.Nat.{ℕ, zero, suc}
+use Prim.Native.Nat.{ℕ, zero, suc, ◌≤◌}
 use mathlib.Core.Path.{◌≡◌, refl, ap, ◌∙◌}
 use mathlib.Core.Logic.{◌≢◌}
 use native.Mathlib.Omega.{arith}
@@ -61,6 +61,24 @@ refusal_back Line = refl
 refusal_back Kind = refl
 refusal_back FrameLength = refl
 refusal_back Place = refl
+
+-- the number of a refusal of a list, an engine, a table or its buffer, or of a record, from the refusal that has it
+pub named : (k : ℕ) → k ≢ 0 → k ≤ 12 → number_of (refusal_from k) ≡ k
+unfolding refusal_from refusals
+named zero x l = absurd (x refl)
+named (suc zero) x l = refl
+named (suc (suc zero)) x l = refl
+named (suc (suc (suc zero))) x l = refl
+named (suc (suc (suc (suc zero)))) x l = refl
+named (suc (suc (suc (suc (suc zero))))) x l = refl
+named (suc (suc (suc (suc (suc (suc zero)))))) x l = refl
+named (suc (suc (suc (suc (suc (suc (suc zero))))))) x l = refl
+named (suc (suc (suc (suc (suc (suc (suc (suc zero)))))))) x l = refl
+named (suc (suc (suc (suc (suc (suc (suc (suc (suc zero))))))))) x l = refl
+named (suc (suc (suc (suc (suc (suc (suc (suc (suc (suc zero)))))))))) x l = refl
+named (suc (suc (suc (suc (suc (suc (suc (suc (suc (suc (suc zero))))))))))) x l = refl
+named (suc (suc (suc (suc (suc (suc (suc (suc (suc (suc (suc (suc zero)))))))))))) x l = refl
+named (suc (suc (suc (suc (suc (suc (suc (suc (suc (suc (suc (suc (suc k))))))))))))) x l = absurd (omega arith)
 
 -- an answer that has no other value, from its number
 pub done_from : ℕ → Result (Unit {0}) Refusal

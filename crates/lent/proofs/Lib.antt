@@ -1,2 +1,0 @@
-pub mod ScanLaws
-pub mod Calls
