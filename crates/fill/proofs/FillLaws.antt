@@ -47,7 +47,8 @@ module _ (w n : ℕ) (g : ℕ → ℕ → ℕ) (s : List ℕ) where
     | yes e ↦ rw e (filled_at (in_rows w n g k s) (k * w) n (g k) v lv (omega (arith, rows_length k, suc-mul k w)))
     | no x ↦
         let below : suc t * w ≤ k * w = mul-le-mul {n₂ = k} {m₂ = w} (omega arith) (omega arith) in
-        filled_before (in_rows w n g k s) (k * w) n (g k) (t * w + v) (omega (arith, suc-mul t w)) ∙ rows_at k t v (omega arith) lv ln (omega (arith, suc-mul k w))
+        filled_before (in_rows w n g k s) (k * w) n (g k) (t * w + v) (omega (arith, suc-mul t w))
+        ∙ rows_at k t v (omega arith) lv ln (omega (arith, suc-mul k w))
   ]
 
   -- what stands behind the rows

@@ -63,14 +63,22 @@ module _ {m : ℕ} {ts : List Task} (s : SoundList m ts) where
 
 -- ---- the slots in which jobs end
 -- no entry before the mark of a slot is odd
-ends_before : (entries : List ℕ) (n L t v : ℕ) → L ≤ 1024 → t < L → v < nth (filled (replicate 1024 0) 0 L (end_mark entries n)) t → nth entries (t * 16 + v) % 2 ≡ 0
-unfolding end_mark
-ends_before entries n L t v few lt before = seek_before n (λ v. nth entries (t * 16 + v) % 2) v
-    (subst (λ k. v < k) (ap (nth (filled (replicate 1024 0) 0 L (end_mark entries n))) (sym (zero-add t)) ∙ filled_at (replicate 1024 0) 0 L (end_mark entries n) t lt (omega (arith, length-replicate {A = ℕ} 1024 0))) before)
+module _ (entries : List ℕ) (n L t v : ℕ) where
+  abbrev marks : List ℕ
+  marks = filled (replicate 1024 0) 0 L (end_mark entries n)
+
+  ends_before : L ≤ 1024 → t < L → v < nth marks t → nth entries (t * 16 + v) % 2 ≡ 0
+  unfolding end_mark
+  ends_before few lt before = seek_before n (λ v. nth entries (t * 16 + v) % 2) v (subst (λ k. v < k) mark before)
+    where
+      mark : nth marks t ≡ end_mark entries n t
+      mark = ap (nth marks) (sym (zero-add t))
+          ∙ filled_at (replicate 1024 0) 0 L (end_mark entries n) t lt (omega (arith, length-replicate {A = ℕ} 1024 0))
 
 -- ---- the sets
 -- a task of the list is in the sets on the cores that the rule gives of it
-sets_has : (bits : Task → ℕ) → ((τ : Task) → bits τ < 16) → (ts : List Task) (v c : ℕ) → v < length ts → c < 4 → has (sets_by bits ts) v c ≡ has (bits (task ts (suc v))) 0 c
+sets_has : (bits : Task → ℕ) → ((τ : Task) → bits τ < 16) → (ts : List Task) (v c : ℕ) → v < length ts → c < 4
+    → has (sets_by bits ts) v c ≡ has (bits (task ts (suc v))) 0 c
 unfolding sets_by
 sets_has bits few [] v c l lc = absurd (omega arith)
 sets_has bits few (τ ∷ ts) zero c l lc = pushed_first (sets_by bits ts) (bits τ) c lc
@@ -149,7 +157,7 @@ module _ {m : ℕ} {ts : List Task} (s : SoundList m ts) where
       tasks = refl;
       entries = λ t v lt lv. rows_at 16 (length ts) (entry_in ts (table_length ts)) (replicate 16384 0) (table_length ts) t v lt lv s.few_tasks
           (omega (arith, length-replicate {A = ℕ} 16384 0, s.few_slots));
-      ends = λ t v lt lv before. ends_before (entries_of ts (table_length ts) (replicate 16384 0)) (length ts) (table_length ts) t v s.few_slots lt before;
+      ends = λ t v lt lv. ends_before (entries_of ts (table_length ts) (replicate 16384 0)) (length ts) (table_length ts) t v s.few_slots lt;
       rates = λ v j lv lj. rows_at 4 4 (rate_in ts) (replicate 64 0) (length ts) v j lv (omega (arith, s.few_cores)) (omega arith)
           (omega (arith, length-replicate {A = ℕ} 64 0, s.few_tasks));
       rated = λ v j lv lj. let few : j < 4 = omega (arith, s.few_cores) in
@@ -162,7 +170,8 @@ module _ {m : ℕ} {ts : List Task} (s : SoundList m ts) where
     }
 
 -- ---- what the walk asks of a grid that was filled
-module _ (m : ℕ) (ts : List Task) (e L : ℕ) (sound : IsSound m ts) (eL : L ≡ table_length ts) (grid : Grid) (eg : grid ≡ grid_of ts m e L empty_grid) where
+module _ (m : ℕ) (ts : List Task) (e L : ℕ) (sound : IsSound m ts) (eL : L ≡ table_length ts)
+    (grid : Grid) (eg : grid ≡ grid_of ts m e L empty_grid) where
   -- it is the instance's
   pub filled_ready : GridFor (own_instance m ts) e grid
   filled_ready = subst (GridFor (own_instance m ts) e) (sym (eg ∙ ap (λ n. grid_of ts m e n empty_grid) eL)) (grid_for (sound_list m ts sound) e)

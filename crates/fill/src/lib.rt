@@ -186,17 +186,13 @@ fn task_sets(tasks: &[Task], engine: Engine) -> (u64, u64)
 }
 
 // Whether two cores have equal rates for every task.
-#[tactic(auto, using(crate::proofs::RateLaws::rates_differ, laws::proofs::TestLaws::all_true), unfolding(crate::specs::Grid::cores_twin))]
 fn cores_twin(tasks: &[Task], a: usize, b: usize) -> bool
     requires { (a < 4) × (b < 4) }
     ensures { result ≡ cores_twin tasks.now a b }
 {
-    for task in tasks {
-        if task.rates.on(a) != task.rates.on(b) {
-            return false;
-        }
-    }
-    true
+    tasks
+        .iter()
+        .all(|task| task.rates.on(a) == task.rates.on(b))
 }
 
 // Rule B's marks, for the quick engine: at c * 4 + j, whether cores c and j are twins.

@@ -16,7 +16,8 @@ use Rattle.search.proofs.AnswerLaws.{answer_from, answer_back}
 -- what is told of an answer and a buffer tells them apart from all others
 pub told_only : {x : Searched} (r r' : Result Answer Refusal) (t t' : List ℕ) → searched_as r t ≡ x → searched_as r' t' ≡ x → (r ≡ r') × (t ≡ t')
 told_only r r' t t' e e' =
-    let both = only e e' in (sym (answer_back r t) ∙ ap answer_from both ∙ answer_back r' t', sym (buffer_back r t) ∙ ap (λ x. x.buffer) both ∙ buffer_back r' t')
+    let both = only e e' in
+    (sym (answer_back r t) ∙ ap answer_from both ∙ answer_back r' t', sym (buffer_back r t) ∙ ap (λ x. x.buffer) both ∙ buffer_back r' t')
   where
     buffer_back : (r : Result Answer Refusal) (t : List ℕ) → (searched_as r t).buffer ≡ t
     buffer_back (Ok r) t = refl

@@ -99,10 +99,13 @@ abbrev answer_of : End → ℕ → ℕ → Answer
 answer_of e k u = record { outcome = outcome_of e; tries = k - u }
 
 -- the answer and the buffer are those of what an end tells, with u tries less
-told_end : (e : End) (n u k : ℕ) (t buffer : List ℕ) → answered_as (answer_of e k u) (over (cells_left (outcome_of e) n t) buffer) ≡ search_told n buffer (less u (told_at e n 0 t k))
+told_end : (e : End) (n u k : ℕ) (t buffer : List ℕ)
+    → answered_as (answer_of e k u) (over (cells_left (outcome_of e) n t) buffer) ≡ search_told n buffer (less u (told_at e n 0 t k))
 unfolding search_told told_at cells_left
 told_end NoneFound n u k t buffer = refl
-told_end Found n u k t buffer = let whole : n ≡ n - 0 = omega arith in λ i. record { verdict = 0; tries = k - u; buffer = over (take (whole i) t) buffer }
+told_end Found n u k t buffer =
+    let whole : n ≡ n - 0 = omega arith in
+    λ i. record { verdict = 0; tries = k - u; buffer = over (take (whole i) t) buffer }
 told_end Stopped n u k t buffer = refl
 
 -- ---- the counters
@@ -117,7 +120,8 @@ module _ {m : ℕ} {ts : List Task} (s : SoundList m ts) where
   unfolding left_of instance_of done sum
   lefts_start t = record {
     counters = counters;
-    none_closed = rows_behind 16 (length ts) (λ job v. (task ts (suc v)).work.0) (replicate 16385 0) 1024 16384 (omega arith) s.few_tasks ∙ get_or-replicate {A = ℕ} 16385 16384 0 0 (omega arith);
+    none_closed = rows_behind 16 (length ts) (λ job v. (task ts (suc v)).work.0) (replicate 16385 0) 1024 16384 (omega arith) s.few_tasks
+        ∙ get_or-replicate {A = ℕ} 16385 16384 0 0 (omega arith);
   }
     where
       counters : (i k : ℕ) → i ≢ 0 → i ≤ length ts → k < table_length ts / (task ts i).period.0
@@ -125,7 +129,8 @@ module _ {m : ℕ} {ts : List Task} (s : SoundList m ts) where
       counters zero k x l h = absurd (x refl)
       counters (suc v) k x l h =
           let few : k < 1024 = omega (arith, div-le_self (table_length ts) (task ts (suc v)).period.0, s.few_slots) in
-          rows_at 16 (length ts) (λ job v. (task ts (suc v)).work.0) (replicate 16385 0) 1024 k v few l s.few_tasks (rw (length-replicate {A = ℕ} 16385 0) (omega arith)) ∙ omega arith
+          rows_at 16 (length ts) (λ job v. (task ts (suc v)).work.0) (replicate 16385 0) 1024 k v few l s.few_tasks
+          (rw (length-replicate {A = ℕ} 16385 0) (omega arith)) ∙ omega arith
 
 -- ---- a walk over the filled arrays
 pub filled_walks : (ts : List Task) (m e L u : ℕ) (t : List ℕ) (r : Walked) (t' : List ℕ) (grid : Grid) (left l : List ℕ) → grid ≡ grid_of ts m e L empty_grid
@@ -190,7 +195,8 @@ module _ (m : ℕ) (ts : List Task) (e b L : ℕ) (sound : IsSound m ts) (eL : L
         let leaves = walk.ran.leaves in
         let ends = ex ∙ ap outcome_of leaves.end in
         let cells = en ∙ ap (λ n. n * m) eL in
-        ap₂ answered_as (λ i. record { outcome = ends i; tries = leaves.tries i - (full - b) }) (e' ∙ (λ i. over (cells_left (ends i) (cells i) (leaves.table i)) buffer))
+        ap₂ answered_as (λ i. record { outcome = ends i; tries = leaves.tries i - (full - b) })
+        (e' ∙ (λ i. over (cells_left (ends i) (cells i) (leaves.table i)) buffer))
         ∙ told_end end.end (table_length ts * m) (full - b) end.tries end.table buffer
         ∙ ap (λ a. search_told (table_length ts * m) buffer (less (full - b) a)) shows.answer
         ∙ ap (search_told (table_length ts * m) buffer) (limited_less (full - b) b (walked e (own_instance m ts)))

@@ -10,7 +10,9 @@ use Rattle.search.proofs.hand_over.Goals as goal
 
 pub returns-in-Found : goal.returns-in-Found
 unfolding cells_left
-returns-in-Found c = rw c.in-Found.is (written _ _ _ _ c.copy_from_slice.ensures.after (length-take-le c.args.n _ (omega (arith, c.requires.0, c.told-cells))))
+returns-in-Found c =
+    rw c.in-Found.is
+    (written _ _ _ _ c.copy_from_slice.ensures.after (length-take-le c.args.n _ (omega (arith, c.requires.0, c.told-cells))))
 
 pub returns-in-NoTable : goal.returns-in-NoTable
 unfolding cells_left

@@ -18,7 +18,8 @@ returns-in_err-engine c =
 
 pub returns-then-table-n : goal.returns-then-table-n
 returns-then-table-n c =
-    buffer_refused _ _ _ _ _ _ c.in_ok-len.ensures _ c.in_ok-engine.ensures (omega (arith, c.if-table-n.true, ap₂ ◌*◌ c.from.ensures c.from-2.ensures))
+    buffer_refused _ _ _ _ _ _ c.in_ok-len.ensures _ c.in_ok-engine.ensures
+    (omega (arith, c.if-table-n.true, ap₂ ◌*◌ c.from.ensures c.from-2.ensures))
 
 pub walk_list-requires : goal.walk_list-requires
 walk_list-requires c =
@@ -27,5 +28,6 @@ walk_list-requires c =
 
 pub returns : goal.returns
 returns c =
-    walk_answer_lem _ _ _ _ _ _ c.in_ok-len.ensures _ c.in_ok-engine.ensures (omega (arith, c.if-table-n.false, ap₂ ◌*◌ c.from.ensures c.from-2.ensures))
+    walk_answer_lem _ _ _ _ _ _ c.in_ok-len.ensures _ c.in_ok-engine.ensures
+    (omega (arith, c.if-table-n.false, ap₂ ◌*◌ c.from.ensures c.from-2.ensures))
     _ c.walk_list.ensures
