@@ -12,7 +12,7 @@ use Rattle.tasks.specs.declared.Refusal.{Refusal}
 use Rattle.grid.specs.declared.Grid.{Grid}
 use Rattle.fill.specs.declared.Engine.{Engine}
 use Rattle.fill.specs.declared.Engine.TheVariants.{Plain, Quick}
-use Rattle.fill.specs.Engine.{engine_of, Decodes}
+use Rattle.fill.specs.Engine.{engine_of, DecodesEngine}
 use Rattle.fill.specs.Grid.{grid_of}
 use Rattle.fill.specs.contracts.fill_grid as fill_grid_call
 
@@ -29,7 +29,7 @@ pub fill_grid_only : (g : Grid) (ts : List Task) (m : ℕ) (engine : Engine) (le
     → FillGrid g ts m engine len u → FillGrid g ts m engine len u' → u ≡ u'
 fill_grid_only g ts m engine len u u' = only
 
--- ---- Engine::try_from: by `Decodes` there is one answer
+-- ---- Engine::try_from: by `DecodesEngine` there is one answer
 -- the engine of a number
 engine_from : ℕ → Engine
 engine_from zero = Plain
@@ -45,7 +45,7 @@ engine_few : (engine : Engine) → 1 < engine_of engine → ⊥
 engine_few Plain l = omega arith
 engine_few Quick l = omega arith
 
-pub try_from_only : (number : ℕ) (r r' : Result Engine Refusal) → Decodes number r → Decodes number r' → r ≡ r'
+pub try_from_only : (number : ℕ) (r r' : Result Engine Refusal) → DecodesEngine number r → DecodesEngine number r' → r ≡ r'
 try_from_only number (Ok a) (Ok b) ea eb = ap Ok (sym (engine_back a) ∙ ap engine_from (ea ∙ sym eb) ∙ engine_back b)
 try_from_only number (Ok a) (Err r) ea er = absurd (engine_few a (subst (λ n. 1 < n) (sym ea) er.1))
 try_from_only number (Err r) (Ok b) er eb = absurd (engine_few b (subst (λ n. 1 < n) (sym eb) er.1))

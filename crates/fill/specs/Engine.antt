@@ -12,5 +12,5 @@ engine_of Plain = 0
 engine_of Quick = 1
 
 -- 5.5: the engine of this number, or refusal 9 where there is none
-abbrev pub Decodes : ℕ → Result Engine Refusal → Type 0
-Decodes number r = MatchResult r (λ engine. engine_of engine ≡ number) (λ e. (e ≡ refusal.Engine) × (1 < number))
+abbrev pub DecodesEngine : ℕ → Result Engine Refusal → Type 0
+DecodesEngine number r = MatchResult r (λ engine. engine_of engine ≡ number) (λ e. (e ≡ refusal.Engine) × (1 < number))

@@ -20,11 +20,11 @@ pub enum Engine {
 }
 
 impl TryFrom<u8> for Engine {
-    ghost use Rattle.fill.specs.Engine.{Decodes};
+    ghost use Rattle.fill.specs.Engine.{DecodesEngine};
 
     type Error = Refusal;
 
-    ghost try_from_gives = { Decodes };
+    ghost try_from_gives = { DecodesEngine };
 
     fn try_from(number: u8) -> Result<Engine, Refusal> {
         match number {

@@ -18,7 +18,7 @@ use Rattle.lines.proofs.LineLaws.{line_cut}
 use Rattle.lines.proofs.RefusalLaws.{both_pass}
 use Rattle.frames.specs.declared.Problem.{Problem}
 use Rattle.frames.specs.Read.{Reading, said, start, refused, problem, may_follow, right_number, in_place, taken_frame, place_refusal, or_read, read_lines}
-use Rattle.frames.specs.Told.{Holds, code_before, WasFrame}
+use Rattle.frames.specs.Told.{HasRead, code_before, WasFrame}
 
 -- an 03 in its place finds room for its task
 number_room : (last n : ℕ) (f : List ℕ) → in_place last n f ≡ true → nth f 0 ≡ 3 → n < 16
@@ -86,7 +86,7 @@ rates_room last n frame f g e k =
 -- the state that the code's values stand for, from which the rest of the text decides
 pub record Reached (text : List ℕ) (p : Problem) (last : Option Frame) (rest : List ℕ) : Type 0 where
   pub state : Reading
-  pub held : Holds p state
+  pub held : HasRead p state
   pub was : WasFrame last state.last
   pub decides : read_lines start (lines text) ≡ read_lines state (lines rest)
 
@@ -117,7 +117,7 @@ module _ (text : List ℕ) (p : Problem) (last : Option Frame) (rest line behind
 
     -- and on to the next line
     pub reached_next : (frame : Frame) (p' : Problem) → true ≡ in_place (code_before last) count line_bytes → IsFrame frame line_bytes
-        → Holds p' (taken_frame R.state line_bytes) → Reached text p' (Some frame) behind
+        → HasRead p' (taken_frame R.state line_bytes) → Reached text p' (Some frame) behind
     unfolding taken_frame place_refusal unless
     reached_next frame p' q g h = record {
       state = taken_frame R.state line_bytes;

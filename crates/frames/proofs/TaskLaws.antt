@@ -12,7 +12,7 @@ use Rattle.lines.specs.Frame.{two, four, ten_bytes}
 use Rattle.lines.specs.Told.{code_of, IsFrame}
 use Rattle.frames.specs.declared.Problem.{Problem}
 use Rattle.frames.specs.Read.{Reading, task_of, taken_frame}
-use Rattle.frames.specs.Told.{Holds, WasFrame}
+use Rattle.frames.specs.Told.{HasRead, WasFrame}
 
 -- a frame that says nothing
 quiet : (k : Kind) → k ≢ kind.Cores → k ≢ kind.Rates → k ≢ kind.Limit → (code_of k ≢ 1) × (code_of k ≢ 3) × (code_of k ≢ 4)
@@ -25,8 +25,8 @@ quiet kind.Slot a b c = (λ z. omega arith, λ z. omega arith, λ z. omega arith
 quiet kind.End a b c = (λ z. omega arith, λ z. omega arith, λ z. omega arith)
 
 -- what a frame says, kind by kind
-module _ (p : Problem) (frame : Frame) (s : Reading) (h : Holds p s) (f : List ℕ) (g : IsFrame frame f) where
-  pub cores_said : frame.kind ≡ kind.Cores → Holds (record { m = nth frame.bytes 1; tasks = p.tasks; engine = p.engine; limit = p.limit }) (taken_frame s f)
+module _ (p : Problem) (frame : Frame) (s : Reading) (h : HasRead p s) (f : List ℕ) (g : IsFrame frame f) where
+  pub cores_said : frame.kind ≡ kind.Cores → HasRead (record { m = nth frame.bytes 1; tasks = p.tasks; engine = p.engine; limit = p.limit }) (taken_frame s f)
   unfolding taken_frame ten_bytes tab_from
   cores_said k =
       let code : nth f 0 ≡ 1 = sym g.0 ∙ ap code_of k in
@@ -34,7 +34,7 @@ module _ (p : Problem) (frame : Frame) (s : Reading) (h : Holds p s) (f : List �
 
   pub task_said : (last : Option Frame) (numbers : Frame) (τ : Task) (tasks : ArrayVec Task) → last ≡ Some numbers → WasFrame last s.last → frame.kind ≡ kind.Rates
       → τ ≡ task_of numbers.bytes frame.bytes → tasks.items ≡ p.tasks.items ++ (τ ∷ [])
-      → Holds (record { m = p.m; tasks = tasks; engine = p.engine; limit = p.limit }) (taken_frame s f)
+      → HasRead (record { m = p.m; tasks = tasks; engine = p.engine; limit = p.limit }) (taken_frame s f)
   unfolding taken_frame task_of two ten_bytes tab_from
   task_said last numbers τ tasks was w k t more =
       let code : nth f 0 ≡ 3 = sym g.0 ∙ ap code_of k in
@@ -47,13 +47,13 @@ module _ (p : Problem) (frame : Frame) (s : Reading) (h : Holds p s) (f : List �
       }
 
   pub limit_said : (limit : ℕ) → frame.kind ≡ kind.Limit → limit ≡ four frame.bytes 2
-      → Holds (record { m = p.m; tasks = p.tasks; engine = nth frame.bytes 1; limit = limit }) (taken_frame s f)
+      → HasRead (record { m = p.m; tasks = p.tasks; engine = nth frame.bytes 1; limit = limit }) (taken_frame s f)
   unfolding taken_frame four two ten_bytes tab_from
   limit_said limit k e =
       let code : nth f 0 ≡ 4 = sym g.0 ∙ ap code_of k in
       record { m = rw code h.m; tasks = rw code h.tasks; engine = rw code (ap (λ b. nth b 1) g.1); limit = rw code (e ∙ rw g.1) }
 
-  pub nothing_said : frame.kind ≢ kind.Cores → frame.kind ≢ kind.Rates → frame.kind ≢ kind.Limit → Holds p (taken_frame s f)
+  pub nothing_said : frame.kind ≢ kind.Cores → frame.kind ≢ kind.Rates → frame.kind ≢ kind.Limit → HasRead p (taken_frame s f)
   unfolding taken_frame
   nothing_said a b c =
       let q = quiet frame.kind a b c in

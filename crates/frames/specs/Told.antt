@@ -14,7 +14,7 @@ read_as (Ok p) = problem p.m p.tasks.items p.engine p.limit
 read_as (Err r) = refused (number_of r)
 
 -- what the frames so far have said
-pub record Holds (p : Problem) (s : Reading) : Type 0 where
+pub record HasRead (p : Problem) (s : Reading) : Type 0 where
   pub m : p.m ≡ s.m
   pub tasks : p.tasks.items ≡ s.tasks
   pub engine : p.engine ≡ s.engine

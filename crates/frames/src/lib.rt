@@ -6,7 +6,7 @@ ghost use Rattle.lines.specs.Frame.{two, four};
 ghost use Rattle.lines.specs.Lines.{lines};
 ghost use Rattle.lines.specs.Told.{code_of, IsFrame};
 ghost use Rattle.frames.specs.Read.{Reading, start, may_follow, right_number, in_place, task_of, taken_frame, read_lines, read_problem};
-ghost use Rattle.frames.specs.Told.{read_as, Holds, code_before, WasFrame};
+ghost use Rattle.frames.specs.Told.{read_as, HasRead, code_before, WasFrame};
 
 use arrayvec::ArrayVec;
 use lines::{Frame, Kind};
@@ -101,7 +101,7 @@ fn is_end(last: Option<Frame>) -> bool
 impl Problem {
     // What holds before the first frame.
     fn new() -> Problem
-        ensures { Holds result start }
+        ensures { HasRead result start }
     {
         Problem {
             m: 0,
@@ -121,7 +121,7 @@ impl Problem {
     // What one more frame says behind the last one: an 03 with the 02 before it makes a task.
     fn take_frame(&mut self, last: Option<Frame>, frame: Frame)
         requires { frame.kind ≡ Kind.Rates → (code_before last ≡ 2) × (length self.old.tasks.items < 16) }
-        ensures { (s : Reading) → Holds self.old s → WasFrame last s.last → (f : List ℕ) → IsFrame frame f → Holds self.new (taken_frame s f) }
+        ensures { (s : Reading) → HasRead self.old s → WasFrame last s.last → (f : List ℕ) → IsFrame frame f → HasRead self.new (taken_frame s f) }
     {
         match frame.kind {
             Kind::Cores => self.m = frame.bytes[1],

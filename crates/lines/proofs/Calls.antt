@@ -16,7 +16,7 @@ use Rattle.lines.specs.declared.Frame.{Frame}
 use Rattle.lines.specs.Frame.{sort_of}
 use Rattle.lines.specs.Lines.{bytes_of, LineEnd, line_in, line_of}
 use Rattle.lines.specs.Refusal.{is_kind, line_refusal}
-use Rattle.lines.specs.Told.{code_of, Decodes, IsFrame}
+use Rattle.lines.specs.Told.{code_of, DecodesKind, IsFrame}
 use Rattle.lines.proofs.FrameLaws.{is_known}
 use Rattle.lines.specs.contracts.put_frame as put_frame_call
 use Rattle.lines.specs.contracts.read_line as read_line_call
@@ -41,7 +41,7 @@ same_kind : (a b : Kind) → code_of a ≡ code_of b → a ≡ b
 same_kind a b e = sym (kind_back a) ∙ ap kind_from e ∙ kind_back b
 
 -- the kind of a byte, or that it is none
-pub decodes_only : (code : ℕ) (r r' : Result Kind Refusal) → Decodes code r → Decodes code r' → r ≡ r'
+pub decodes_only : (code : ℕ) (r r' : Result Kind Refusal) → DecodesKind code r → DecodesKind code r' → r ≡ r'
 decodes_only code (Ok a) (Ok b) e e' = ap Ok (same_kind a b (e ∙ sym e'))
 decodes_only code (Ok a) (Err d) e e' = absurd (true≢false (sym (is_known a) ∙ ap (λ k. is_kind (sort_of k)) e ∙ e'.1))
 decodes_only code (Err d) (Ok b) e e' = absurd (true≢false (sym (is_known b) ∙ ap (λ k. is_kind (sort_of k)) e' ∙ e.1))

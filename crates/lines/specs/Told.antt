@@ -21,8 +21,8 @@ code_of Slot = 6
 code_of End = 7
 
 -- 8.8: the kind whose lines begin with this byte, or that there is none
-abbrev pub Decodes : ℕ → Result Kind Refusal → Type 0
-Decodes code r = MatchResult r (λ kind. code_of kind ≡ code) (λ e. (e ≡ refusal.Kind) × (is_kind (sort_of code) ≡ false))
+abbrev pub DecodesKind : ℕ → Result Kind Refusal → Type 0
+DecodesKind code r = MatchResult r (λ kind. code_of kind ≡ code) (λ e. (e ≡ refusal.Kind) × (is_kind (sort_of code) ≡ false))
 
 -- a frame of these bytes, which it has filled up with 0
 abbrev pub IsFrame : Frame → List ℕ → Type 0

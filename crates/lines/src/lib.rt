@@ -36,11 +36,11 @@ impl From<Kind> for u8 {
 }
 
 impl TryFrom<u8> for Kind {
-    ghost use Rattle.lines.specs.Told.{Decodes};
+    ghost use Rattle.lines.specs.Told.{DecodesKind};
 
     type Error = Refusal;
 
-    ghost try_from_gives = { Decodes };
+    ghost try_from_gives = { DecodesKind };
 
     fn try_from(code: u8) -> Result<Kind, Refusal> {
         match code {

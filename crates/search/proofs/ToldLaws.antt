@@ -28,14 +28,14 @@ use Rattle.grid.specs.GridFor.{counter_of, GridFor, Lefts}
 use Rattle.walk.specs.declared.End.{End}
 use Rattle.walk.specs.declared.End.TheVariants.{Found, NoneFound, Stopped}
 use Rattle.walk.specs.declared.Walked.{Walked}
-use Rattle.walk.specs.Machine.{State, walk_on, first_on, cells_left as cells_after, full, Ran}
+use Rattle.walk.specs.Machine.{State, walk_on, first_on, cells_handed as cells_after, full, Ran}
 use Rattle.walk.proofs.RefineLaws.{told_at, Shows, shows_same, walk_limited}
 use Rattle.fill.specs.Grid.{empty_grid, grid_of}
 use Rattle.fill.proofs.FillLaws.{rows_length, rows_at, rows_behind}
 use Rattle.fill.proofs.GridLaws.{instance_small, filled_ready}
 use Rattle.search.specs.declared.Outcome.{Outcome}
 use Rattle.search.specs.declared.Answer.{Answer}
-use Rattle.search.specs.Told.{left_in, left_of, ListWalked, outcome_of, cells_left, walk_told, answered_as}
+use Rattle.search.specs.Told.{left_in, left_of, ListWalked, outcome_of, cells_handed, walk_told, ended_as}
 use Rattle.search.proofs.AnswerLaws.{few_cells}
 
 -- ---- tries counted from u on
@@ -100,8 +100,8 @@ answer_of e k u = record { outcome = outcome_of e; tries = k - u }
 
 -- the answer and the buffer are those of what an end tells, with u tries less
 told_end : (e : End) (n u k : ℕ) (t buffer : List ℕ)
-    → answered_as (answer_of e k u) (over (cells_left (outcome_of e) n t) buffer) ≡ search_told n buffer (less u (told_at e n 0 t k))
-unfolding search_told told_at cells_left
+    → ended_as (answer_of e k u) (over (cells_handed (outcome_of e) n t) buffer) ≡ search_told n buffer (less u (told_at e n 0 t k))
+unfolding search_told told_at cells_handed
 told_end NoneFound n u k t buffer = refl
 told_end Found n u k t buffer =
     let whole : n ≡ n - 0 = omega arith in
@@ -188,15 +188,15 @@ module _ (m : ℕ) (ts : List Task) (e b L : ℕ) (sound : IsSound m ts) (eL : L
             (limited_used (full - b) b (walked e (own_instance m ts)))
 
     -- it tells what the engine's walk does under the limit
-    pub walk_told_lem : (buffer buffer' : List ℕ) (n : ℕ) (x : Outcome) → n ≡ L * m → x ≡ outcome_of r.end → buffer' ≡ over (cells_left x n t) buffer
-        → answered_as (record { outcome = x; tries = r.tries - (full - b) }) buffer' ≡ walk_told m ts e b buffer
+    pub walk_told_lem : (buffer buffer' : List ℕ) (n : ℕ) (x : Outcome) → n ≡ L * m → x ≡ outcome_of r.end → buffer' ≡ over (cells_handed x n t) buffer
+        → ended_as (record { outcome = x; tries = r.tries - (full - b) }) buffer' ≡ walk_told m ts e b buffer
     unfolding walk_told instance_of grid
     walk_told_lem buffer buffer' n x en ex e' =
         let leaves = walk.ran.leaves in
         let ends = ex ∙ ap outcome_of leaves.end in
         let cells = en ∙ ap (λ n. n * m) eL in
-        ap₂ answered_as (λ i. record { outcome = ends i; tries = leaves.tries i - (full - b) })
-        (e' ∙ (λ i. over (cells_left (ends i) (cells i) (leaves.table i)) buffer))
+        ap₂ ended_as (λ i. record { outcome = ends i; tries = leaves.tries i - (full - b) })
+        (e' ∙ (λ i. over (cells_handed (ends i) (cells i) (leaves.table i)) buffer))
         ∙ told_end end.end (table_length ts * m) (full - b) end.tries end.table buffer
         ∙ ap (λ a. search_told (table_length ts * m) buffer (less (full - b) a)) shows.answer
         ∙ ap (search_told (table_length ts * m) buffer) (limited_less (full - b) b (walked e (own_instance m ts)))

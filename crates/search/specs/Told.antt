@@ -45,20 +45,20 @@ verdict_of NoTable = 13
 verdict_of Stopped = 14
 
 -- what is left in the first n cells of the caller's buffer: the table, if one was found, else 0
-unfoldable pub cells_left : Outcome → ℕ → List ℕ → List ℕ
-cells_left Found n t = take n t
-cells_left NoTable n t = replicate n 0
-cells_left Stopped n t = replicate n 0
+unfoldable pub cells_handed : Outcome → ℕ → List ℕ → List ℕ
+cells_handed Found n t = take n t
+cells_handed NoTable n t = replicate n 0
+cells_handed Stopped n t = replicate n 0
 
 -- what the search tells where nothing is refused
 unfoldable pub walk_told : ℕ → List Task → ℕ → ℕ → List ℕ → Searched
 walk_told m ts e b buffer = search_told (cells (own_instance m ts)) buffer (limited b (walked e (own_instance m ts)))
 
 -- an answer and the buffer, as the definition has them
-abbrev pub answered_as : Answer → List ℕ → Searched
-answered_as r t = record { verdict = verdict_of r.outcome; tries = r.tries; buffer = t }
+abbrev pub ended_as : Answer → List ℕ → Searched
+ended_as r t = record { verdict = verdict_of r.outcome; tries = r.tries; buffer = t }
 
 -- 5.8: a refusal reports its number and 0 tries
 abbrev pub searched_as : Result Answer Refusal → List ℕ → Searched
-searched_as (Ok r) t = answered_as r t
+searched_as (Ok r) t = ended_as r t
 searched_as (Err r) t = record { verdict = number_of r; tries = 0; buffer = t }

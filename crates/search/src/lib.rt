@@ -6,7 +6,7 @@ ghost use Rattle.laws.specs.Lists.{over};
 ghost use Rattle.tasks.specs.Refusal.{IsSound, table_length};
 ghost use Rattle.rules.specs.Search.{search as search_of};
 ghost use Rattle.fill.specs.Engine.{engine_of};
-ghost use Rattle.search.specs.Told.{left_in, ListWalked, cells_left, walk_told, answered_as, searched_as};
+ghost use Rattle.search.specs.Told.{left_in, ListWalked, cells_handed, walk_told, ended_as, searched_as};
 
 use fill::Engine;
 use grid::Grid;
@@ -99,7 +99,7 @@ fn walk_cells(
 // The first n cells of the caller's buffer become the table, if one was found, else 0.
 fn hand_over(table: &mut [u8], n: usize, outcome: Outcome, cells: &[u8; 4096])
     requires { (n ≤ 4096) × (n ≤ length table.old) }
-    ensures { table.new ≡ over (cells_left outcome n cells.now) table.old }
+    ensures { table.new ≡ over (cells_handed outcome n cells.now) table.old }
 {
     match outcome {
         Outcome::Found => table[..n].copy_from_slice(&cells[..n]),
@@ -118,7 +118,7 @@ fn walk_list(
     table: &mut [u8],
 ) -> Answer
     requires { IsSound m tasks.now × (len.0 ≡ table_length tasks.now) × (len.0 * m ≤ length table.old) }
-    ensures { answered_as result table.new ≡ walk_told m tasks.now (engine_of engine) limit table.old }
+    ensures { ended_as result table.new ≡ walk_told m tasks.now (engine_of engine) limit table.old }
 {
     let mut cells = [0; 4096];
     let start = FULL - limit;
