@@ -5,44 +5,11 @@ ghost use Rattle.std.specs.Prelude.{◌≡◌, ℕ, suc, ◌≤◌, ◌<◌, ◌
 ghost use Rattle.laws.specs.Lists.{filled};
 ghost use Rattle.tasks.specs.Task.{task};
 ghost use Rattle.windows.specs.Answer.{Fit};
-ghost use Rattle.grid.specs.GridFor.{is_quick};
-ghost use Rattle.fill.specs.Engine.{engine_of};
+ghost use Rattle.grid.specs.GridFor.{is_quick as quick_engine};
 ghost use Rattle.fill.specs.Grid.{entry_for, entries_of, end_mark, rates_of, even_pair, even_row, quick_bit, evens_of, rated_bit, rated_row, rated_of, cores_twin, twins_of, grid_of};
 
 use grid::Grid;
-use tasks::{Rates, Refusal, Slots, Task};
-
-// The engines of the search: the plain walk, and the quick one by rules A and B (RULES 4.9 to 4.11).
-#[derive(Clone, Copy, PartialEq, Eq)]
-pub enum Engine {
-    Plain = 0,
-    Quick = 1,
-}
-
-impl TryFrom<u8> for Engine {
-    ghost use Rattle.fill.specs.Engine.{DecodesEngine};
-
-    type Error = Refusal;
-
-    ghost try_from_gives = { DecodesEngine };
-
-    fn try_from(number: u8) -> Result<Engine, Refusal> {
-        match number {
-            0 => Ok(Engine::Plain),
-            1 => Ok(Engine::Quick),
-            _ => Err(Refusal::Engine),
-        }
-    }
-}
-
-impl Engine {
-    // Rules A and B are those of the quick engine.
-    fn is_quick(self) -> bool
-        ensures { result ≡ is_quick (engine_of self) }
-    {
-        self == Engine::Quick
-    }
-}
+use tasks::{Rates, Slots, Task};
 
 // Twice the counter of a task in a slot where it is closed.
 const CLOSED: u16 = 32768;
@@ -142,12 +109,20 @@ fn even_row(rates: Rates) -> bool
     true
 }
 
+// Rules A and B are those of the quick engine. An engine is its number here, 0 the plain one and every other the quick one, since
+// `fill_grid` promises a grid for each.
+fn is_quick(engine: u8) -> bool
+    ensures { result ≡ quick_engine engine }
+{
+    engine != 0
+}
+
 // 1 if a test that the quick engine alone makes passes.
 #[tactic(auto, unfolding(crate::specs::Grid::quick_bit, laws::specs::Sum::gate))]
-fn quick_bit(engine: Engine, test: bool) -> u64
-    ensures { (result ≡ quick_bit (engine_of engine) test) × (result < 16) }
+fn quick_bit(engine: u8, test: bool) -> u64
+    ensures { (result ≡ quick_bit engine test) × (result < 16) }
 {
-    u64::from(engine.is_quick() && test)
+    u64::from(is_quick(engine) && test)
 }
 
 // 1 if a rate is positive.
@@ -172,9 +147,9 @@ fn rated_row(rates: Rates) -> u64
 // Rule A's set, for the quick engine the tasks whose positive rates are all equal, on core 0 alone; and the sets of the tasks
 // whose rate on a core is positive.
 #[tactic(auto, using(crate::proofs::RateLaws::none_passed, crate::proofs::RateLaws::all_passed))]
-fn task_sets(tasks: &[Task], engine: Engine) -> (u64, u64)
+fn task_sets(tasks: &[Task], engine: u8) -> (u64, u64)
     requires { length tasks.now ≤ 16 }
-    ensures { (result.0 ≡ evens_of (engine_of engine) tasks.now) × (result.1 ≡ rated_of tasks.now) }
+    ensures { (result.0 ≡ evens_of engine tasks.now) × (result.1 ≡ rated_of tasks.now) }
 {
     let mut even: u64 = 0;
     let mut rated: u64 = 0;
@@ -196,17 +171,17 @@ fn cores_twin(tasks: &[Task], a: usize, b: usize) -> bool
 }
 
 // Rule B's marks, for the quick engine: at c * 4 + j, whether cores c and j are twins.
-fn twins(tasks: &[Task], engine: Engine) -> [bool; 16]
-    ensures { result ≡ twins_of (engine_of engine) tasks.now }
+fn twins(tasks: &[Task], engine: u8) -> [bool; 16]
+    ensures { result ≡ twins_of engine tasks.now }
 {
-    std::array::from_fn(|x| engine.is_quick() && cores_twin(tasks, x % 4, x / 4))
+    std::array::from_fn(|x| is_quick(engine) && cores_twin(tasks, x % 4, x / 4))
 }
 
 // The whole grid, in the one that is lent: handed out by value it would take the stack of two.
 #[tactic(auto, unfolding(crate::specs::Grid::grid_of))]
-pub fn fill_grid(grid: &mut Grid, tasks: &[Task], m: u8, engine: Engine, len: Slots)
+pub fn fill_grid(grid: &mut Grid, tasks: &[Task], m: u8, engine: u8, len: Slots)
     requires { (length tasks.now ≤ 16) × (len.0 ≤ 1024) × ((k : ℕ) → k < length tasks.now → Fit len.0 (task tasks.now (suc k))) }
-    ensures { grid.new ≡ grid_of tasks.now m (engine_of engine) len.0 grid.old }
+    ensures { grid.new ≡ grid_of tasks.now m engine len.0 grid.old }
 {
     fill_entries(&mut grid.entries, tasks, len);
     fill_ends(&mut grid.ends, &grid.entries, tasks.len(), len);

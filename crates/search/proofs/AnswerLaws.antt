@@ -1,7 +1,7 @@
 -- What the search answers: a refusal, or what the walk tells.
 -- Assumes nothing.
 use Prim.Native.Nat.{ℕ, ◌*◌, ◌≤◌, ◌<◌}
-use mathlib.Core.Path.{◌≡◌, refl, sym, ap, subst, ◌∙◌}
+use mathlib.Core.Path.{◌≡◌, refl, sym, ap, ◌∙◌}
 use mathlib.Core.Bool.{Bool, true, false, not, cond, ◌||◌}
 use lib.Dec.{eqb}
 use mathlib.Core.List.{List, ◌++◌}
@@ -23,9 +23,6 @@ use Rattle.tasks.proofs.RefusalLaws.{some_number, refusal_from, refusal_back}
 use Rattle.tasks.proofs.AnswerLaws.{or_first, tested_sound, tested_refused}
 use Rattle.rules.specs.Search.{Searched, search_refusal, search}
 use Rattle.rules.proofs.Told.{search_told_lem, refused_told}
-use Rattle.fill.specs.declared.Engine as fills
-use Rattle.fill.specs.declared.Engine.TheVariants.{Plain, Quick}
-use Rattle.fill.specs.Engine.{engine_of}
 use Rattle.search.specs.declared.Outcome.{Outcome}
 use Rattle.search.specs.declared.Outcome.TheVariants.{Found, NoTable, Stopped}
 use Rattle.search.specs.declared.Answer.{Answer}
@@ -56,28 +53,20 @@ module _ (m : ℕ) (ts : List Task) (e b : ℕ) (buffer : List ℕ) where
     unfolding search_refusal unless or_next
     engine_refused l = refused_by Engine (rw ((tested_sound m ts (Ok L) told L refl).0, lt-leb e 1 l))
 
-    module _ (engine : fills.Engine) (is : engine_of engine ≡ e) where
-      -- the number of an engine is 0 or 1
-      few_engines : e ≤ 1
-      few_engines = subst (λ e. e ≤ 1) is (go engine)
-        where
-          go : (engine : fills.Engine) → engine_of engine ≤ 1
-          go Plain = omega arith
-          go Quick = omega arith
-
+    module _ (few : e ≤ 1) where
       -- of the buffer
       pub buffer_refused : length buffer < L.0 * m → searched_as (Err Buffer) buffer ≡ search m ts e b buffer
       unfolding search_refusal unless or_next instance_of
       buffer_refused short =
           let sound = tested_sound m ts (Ok L) told L refl in
-          refused_by Buffer (rw (sound.0, le-leb e 1 few_engines, lt-leb (table_length ts * m) (length buffer) (rw sound.1 at short)))
+          refused_by Buffer (rw (sound.0, le-leb e 1 few, lt-leb (table_length ts * m) (length buffer) (rw sound.1 at short)))
 
       -- no refusal
-      pub walk_answer_lem : L.0 * m ≤ length buffer → (x : Searched) → x ≡ walk_told m ts (engine_of engine) b buffer → x ≡ search m ts e b buffer
+      pub walk_answer_lem : L.0 * m ≤ length buffer → (x : Searched) → x ≡ walk_told m ts e b buffer → x ≡ search m ts e b buffer
       unfolding walk_told instance_of
       walk_answer_lem room x h =
           let sound = tested_sound m ts (Ok L) told L refl in
-          h ∙ ap (λ e. walk_told m ts e b buffer) is ∙ sym (search_told_lem m ts e b buffer sound.0 few_engines (rw sound.1 at room))
+          h ∙ sym (search_told_lem m ts e b buffer sound.0 few (rw sound.1 at room))
 
 -- ---- an answer by what is told
 -- the outcome of a verdict

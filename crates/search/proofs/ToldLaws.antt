@@ -28,7 +28,7 @@ use Rattle.grid.specs.GridFor.{counter_of, GridFor, Lefts}
 use Rattle.walk.specs.declared.End.{End}
 use Rattle.walk.specs.declared.End.TheVariants.{Found, NoneFound, Stopped}
 use Rattle.walk.specs.declared.Walked.{Walked}
-use Rattle.walk.specs.Machine.{State, walk_on, first_on, cells_handed as cells_after, full, Ran}
+use Rattle.walk.specs.Machine.{State, walk_on, first_on, cells_left as cells_after, full, Ran}
 use Rattle.walk.proofs.RefineLaws.{told_at, Shows, shows_same, walk_limited}
 use Rattle.fill.specs.Grid.{empty_grid, grid_of}
 use Rattle.fill.proofs.FillLaws.{rows_length, rows_at, rows_behind}

@@ -5,10 +5,8 @@ ghost use Rattle.std.specs.Prelude.{◌≡◌, ◌*◌, ◌≤◌, length};
 ghost use Rattle.laws.specs.Lists.{over};
 ghost use Rattle.tasks.specs.Refusal.{IsSound, table_length};
 ghost use Rattle.rules.specs.Search.{search as search_of};
-ghost use Rattle.fill.specs.Engine.{engine_of};
 ghost use Rattle.search.specs.Told.{left_in, ListWalked, cells_handed, walk_told, ended_as, searched_as};
 
-use fill::Engine;
 use grid::Grid;
 use tasks::{Refusal, Slots, Task};
 use walk::{End, FULL, Walked};
@@ -71,13 +69,13 @@ fn fill_left(left: &mut [u16; 16385], tasks: &[Task])
 fn walk_cells(
     tasks: &[Task],
     m: u8,
-    engine: Engine,
+    engine: u8,
     len: Slots,
     start: u32,
     cells: &mut [u8; 4096],
 ) -> Walked
     requires { IsSound m tasks.now × (len.0 ≡ table_length tasks.now) }
-    ensures { ListWalked tasks.now m (engine_of engine) len.0 start cells.old result cells.new }
+    ensures { ListWalked tasks.now m engine len.0 start cells.old result cells.new }
 {
     let mut grid = Grid {
         entries: [0; 16384],
@@ -109,16 +107,9 @@ fn hand_over(table: &mut [u8], n: usize, outcome: Outcome, cells: &[u8; 4096])
 
 // The walk over a sound list, and what it leaves in the buffer. Out of line a search that is refused takes no stack for its arrays.
 #[inline(never)]
-fn walk_list(
-    tasks: &[Task],
-    m: u8,
-    engine: Engine,
-    limit: u32,
-    len: Slots,
-    table: &mut [u8],
-) -> Answer
+fn walk_list(tasks: &[Task], m: u8, engine: u8, limit: u32, len: Slots, table: &mut [u8]) -> Answer
     requires { IsSound m tasks.now × (len.0 ≡ table_length tasks.now) × (len.0 * m ≤ length table.old) }
-    ensures { ended_as result table.new ≡ walk_told m tasks.now (engine_of engine) limit table.old }
+    ensures { ended_as result table.new ≡ walk_told m tasks.now engine limit table.old }
 {
     let mut cells = [0; 4096];
     let start = FULL - limit;
@@ -143,7 +134,10 @@ pub fn search(
     ensures { searched_as result table.new ≡ search_of m tasks.now engine limit table.old }
 {
     let len = tasks::test_list(tasks, m)?;
-    let engine = Engine::try_from(engine)?;
+    let known = engine <= 1;
+    if !known {
+        return Err(Refusal::Engine);
+    }
     let n = usize::from(len.0) * usize::from(m);
     if table.len() < n {
         return Err(Refusal::Buffer);

@@ -1,7 +1,6 @@
 -- `fill::task_sets` meets its contract: of the tasks to come the last comes next.
 -- Assumes nothing.
 use Rattle.std.proofs.Common.{ap, ◌∙◌}
-use Rattle.fill.specs.Engine.{engine_of}
 use Rattle.fill.specs.Grid.{quick_bit, even_row}
 use Rattle.fill.proofs.RateLaws.{one_passed, room_passed, quick_few, rated_few}
 use Rattle.fill.proofs.task_sets.Goals as goal
@@ -15,7 +14,7 @@ pushed-rated-requires c = (room_passed c.loop-task.invariant.3 _ _ c.in-Some.ens
 
 pub loop-task-preserved : goal.loop-task-preserved
 loop-task-preserved c =
-    let bit = c.quick_bit.ensures.0 ∙ ap (quick_bit (engine_of c.args.engine)) c.even_row.ensures in (
+    let bit = c.quick_bit.ensures.0 ∙ ap (quick_bit c.args.engine) c.even_row.ensures in (
       tt,
       tt,
       one_passed c.loop-task.invariant.2 _ _ c.in-Some.ensures.steps _ _ bit c.pushed-even.ensures,

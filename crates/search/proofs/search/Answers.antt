@@ -11,14 +11,12 @@ returns-in_err-len c =
     let p = err_from_is_err_and c.from_residual.result c.from_residual.ensures.1 in
     rw (p.1, p.2) (list_refused _ _ _ _ _ _ c.in_err-len.ensures)
 
-pub returns-in_err-engine : goal.returns-in_err-engine
-returns-in_err-engine c =
-    let p = err_from_is_err_and c.from_residual-in_err-engine.result c.from_residual-in_err-engine.ensures.1 in
-    rw (p.1, p.2, c.in_err-engine.ensures.0) (engine_refused _ _ _ _ _ _ c.in_ok-len.ensures c.in_err-engine.ensures.1)
+pub returns-then-not-known : goal.returns-then-not-known
+returns-then-not-known c = engine_refused _ _ _ _ _ _ c.in_ok-len.ensures (omega (arith, c.if-not-known.true))
 
 pub returns-then-table-n : goal.returns-then-table-n
 returns-then-table-n c =
-    buffer_refused _ _ _ _ _ _ c.in_ok-len.ensures _ c.in_ok-engine.ensures
+    buffer_refused _ _ _ _ _ _ c.in_ok-len.ensures (omega (arith, c.if-not-known.false))
     (omega (arith, c.if-table-n.true, ap₂ ◌*◌ c.from.ensures c.from-2.ensures))
 
 pub walk_list-requires : goal.walk_list-requires
@@ -28,6 +26,6 @@ walk_list-requires c =
 
 pub returns : goal.returns
 returns c =
-    walk_answer_lem _ _ _ _ _ _ c.in_ok-len.ensures _ c.in_ok-engine.ensures
+    walk_answer_lem _ _ _ _ _ _ c.in_ok-len.ensures (omega (arith, c.if-not-known.false))
     (omega (arith, c.if-table-n.false, ap₂ ◌*◌ c.from.ensures c.from-2.ensures))
     _ c.walk_list.ensures
