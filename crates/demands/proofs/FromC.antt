@@ -207,7 +207,7 @@ pub from_start : (p : Player) (ts : List Task) (m : ℕ) (t : List ℕ) (tick r 
 unfolding started
 from_start p ts m t tick r cells p' call =
     let (a, e) = shown_there (record { verdict = 0; cells = cells_of (record_of m ts t tick); missed = 0 }) refl (start_refusal m ts t)
-        (λ x. named (start_refusal m ts t) x (omega (arith, start_most m ts t (start_of m ts t)))) in
+    (λ x. named (start_refusal m ts t) x (omega (arith, start_most m ts t (start_of m ts t)))) in
     (a, (e, call.1), subst (Reads r cells) (sym e) (start_reads p ts m t tick r cells p' call))
 
 -- a step shows what `step` shows
