@@ -1,4 +1,5 @@
-// The functions behind the calls of C and Rust: each public one is called by the one of its name in `exports_c`. Numbers, records as C lays them out, and slices.
+// The functions behind the calls of C and Rust: each public one is called by the one of its name in `exports_c`. Numbers, records
+// as C lays them out, and slices: what is told is packed into one number, as the header takes it apart.
 #![tactic(auto)]
 
 ghost use Rattle.std.specs.Prelude.{◌≡◌, ◌≤◌, [], length, leb};

@@ -1,4 +1,5 @@
 // The functions that C and Rust link, as `include/xiphomera.h` has them: each is the one of its name in `exports`.
+// A crate is a static library, which C links, or a library, which `demands` cites: so the five stand twice.
 #![tactic(auto)]
 
 ghost use Rattle.std.specs.Prelude.{◌≡◌, length, leb};

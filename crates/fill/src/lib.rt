@@ -11,7 +11,7 @@ ghost use Rattle.fill.specs.Grid.{entry_for, entries_of, end_mark, rates_of, eve
 use grid::Grid;
 use tasks::{Rates, Slots, Task};
 
-// Twice the counter of a task in a slot where it is closed.
+// Twice the counter of a task in a slot where it is closed. A counter like the others and no Option: the walk reads it untested.
 const CLOSED: u16 = 32768;
 
 // The grid's entry for task v in a slot: twice the counter of its job, and 1 more where nothing of the job is to come.

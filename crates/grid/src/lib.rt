@@ -17,6 +17,7 @@ use tasks::Work;
 #[derive(Drop)]
 pub struct Grid {
     // For slot t and task v, at t * 16 + v: twice the counter of the task's job there, and 1 more in its highest-numbered slot.
+    // One number of 16 bits and no struct, which would take twice the room on the stack.
     pub entries: [u16; 16384],
     // For each slot the first task whose job has its highest-numbered slot there; the task count if there is none.
     pub ends: [u16; 1024],

@@ -6,7 +6,7 @@ ghost use Rattle.std.specs.Prelude.{◌≤◌, length, IfOk};
 use std::io;
 use std::io::{Read, Write};
 
-// Reads until the buffer is full or the input ends; gives how many bytes were read.
+// Reads until the buffer is full or the input ends; gives how many bytes were read. How often that takes, the reader decides.
 fn read_full<R: Read>(reader: &mut R, buf: &mut [u8]) -> io::Result<usize>
     ensures { IfOk result (λ n. n ≤ length buf.new) }
 {

@@ -134,6 +134,7 @@ pub fn search(
     ensures { searched_as result table.new ≡ search_of m tasks.now engine limit table.old }
 {
     let len = tasks::test_list(tasks, m)?;
+    // A number, as C and an 04 name the engine, and `fill_grid` takes it.
     let known = engine <= 1;
     if !known {
         return Err(Refusal::Engine);

@@ -6,7 +6,7 @@ use Rattle.tasks.specs.declared.Refusal.{Refusal}
 use Rattle.tasks.specs.declared.Refusal.TheVariants.{Count, Cores, Period, Deadline, Work, Offset, Rate, Length, Engine, Buffer, Table, Spoilt, Past, Text, Line, Kind, FrameLength, Place}
 use Rattle.tasks.specs.Refusal.{Tested, sound, refused}
 
--- 5.4, 5.5, 5.6, 8.5 to 8.10: the number of a refusal
+-- 5.4, 5.5, 5.6, 8.5, 8.7, 8.8, 8.9, 8.10: the number of a refusal
 abbrev pub number_of : Refusal → ℕ
 number_of Count = 1
 number_of Cores = 2
