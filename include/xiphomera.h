@@ -79,7 +79,7 @@ static inline uint32_t xiphomera_tries(uint64_t answer) { return (uint32_t)answe
 /* Makes the record for a valid table at a tick and shows slot 0: four cells, one a core, each a task or 0. A task is
  * shown as 0 until its offset has passed since the start. A job whose window runs round the table's end may, on cores of
  * unequal rates, be shown in slots in which it has had its work: the core can rest there. Refusals 1 to 8, 10 and 11
- * leave the record as it was and write four 0 cells; after 11 a check says which fault. Stack: at most 42,384. */
+ * leave the record as it was and write four 0 cells; after 11 a check says which fault. Stack: at most 37,200. */
 uint64_t xiphomera_start(xiphomera_player *player, const xiphomera_task *tasks, size_t count, uint32_t cores,
                          const uint8_t *table, size_t table_length, uint32_t tick, uint8_t cells[4]);
 
@@ -87,18 +87,18 @@ uint64_t xiphomera_start(xiphomera_player *player, const xiphomera_task *tasks, 
  * leave the record as it was and write four 0 cells. The ticks may wrap from 4294967295 to 0; the same tick again shows
  * the same slot again. After missed slots the player stands in the right slot; what the cells of those slots should
  * have done is not made up for. The record is spoilt if h, m, n, position or age is out of range; a changed cell, offset
- * or last tick is not seen, but a check can be asked about player.table. Stack: 256. */
+ * or last tick is not seen, but a check can be asked about player.table. Stack: 120. */
 uint64_t xiphomera_step(xiphomera_player *player, uint32_t tick, uint8_t cells[4]);
 
 /* ---- The search and the checker */
 
 /* Searches a table, with engine 0 (plain) or 1 (quick) and at most `limit` tries. Unless it is refused (1 to 10), the
- * first H x m cells of the buffer are the table found, or 0; the others are not touched. Stack: 73,232 to 662,784,
- * growing by 144 a cell that is not idle; 784 if refused by 1 to 7. */
+ * first H x m cells of the buffer are the table found, or 0; the others are not touched. Stack: 72,472 to 596,632,
+ * growing by 128 a cell that is not idle; 128 if refused. */
 uint64_t xiphomera_search(const xiphomera_task *tasks, size_t count, uint32_t cores, uint32_t engine, uint32_t limit,
                           uint8_t *table, size_t table_length);
 
-/* Checks a table: class x 2^48 + a x 2^32 + b x 2^16 + c; 0 if it is valid. Stack: at most 33,840. */
+/* Checks a table: class x 2^48 + a x 2^32 + b x 2^16 + c; 0 if it is valid. Stack: at most 32,960. */
 uint64_t xiphomera_check(const xiphomera_task *tasks, size_t count, uint32_t cores, const uint8_t *table,
                          size_t table_length);
 
@@ -121,7 +121,7 @@ static inline unsigned xiphomera_c(uint64_t answer) { return (uint16_t)answer; }
 
 /* Writes the text of the answer to the text of a problem and gives its bytes; gives 0 and writes nothing if `out` is
  * shorter than the longest answer. A problem without a 04 line is searched with engine 1 and at most 1000000 tries.
- * Stack: at most 667,592. */
+ * Stack: at most 601,200. */
 size_t xiphomera_plan_text(const uint8_t *text, size_t text_length, uint8_t *out, size_t out_length);
 
 #ifdef __cplusplus
