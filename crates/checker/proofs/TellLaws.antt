@@ -122,7 +122,7 @@ module _ (m : ℕ) (ts : List Task) (t : List ℕ) where
   -- a list that is refused
   pub refused_told : (r : Refusal) → tested_as (Err r) ≡ tested m ts → checked_as (Err r) ≡ check m ts t
   refused_told r e =
-      let q = tested_refused m ts (Err r) e r refl in
+      let q = (tested_refused m ts (Err r) e r refl).0 in
       ap refused q ∙ sym (check_refused m ts t (λ z. some_number r (q ∙ z)))
 
   module _ {len : Slots} (e : tested_as (Ok len) ≡ tested m ts) where

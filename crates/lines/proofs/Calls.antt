@@ -14,11 +14,13 @@ use Rattle.lines.specs.declared.Kind.{Kind}
 use Rattle.lines.specs.declared.Kind.TheVariants.{Cores, Task, Rates, Limit, Verdict, Slot, End}
 use Rattle.lines.specs.declared.Frame.{Frame}
 use Rattle.lines.specs.Frame.{sort_of}
+use Rattle.lines.specs.Frame.{ten_bytes}
 use Rattle.lines.specs.Lines.{bytes_of, LineEnd, line_in, line_of}
 use Rattle.lines.specs.Refusal.{is_kind, line_refusal}
 use Rattle.lines.specs.Told.{code_of, DecodesKind, IsFrame}
 use Rattle.lines.proofs.FrameLaws.{is_known}
 use Rattle.lines.specs.contracts.put_frame as put_frame_call
+use Rattle.lines.specs.contracts.frame_at as frame_at_call
 use Rattle.lines.specs.contracts.read_line as read_line_call
 
 -- ---- kinds
@@ -68,33 +70,40 @@ pub line_end_only : (text : List ℕ) (from r r' : ℕ) → LineEnd text from r 
 line_end_only text from r r' e e' =
     ⊎_elim (λ l. absurd (not_before text from r r' e e' l)) (λ g. ⊎_elim (λ l. absurd (not_before text from r' r e' e l)) (λ h. omega arith) (lt_or_ge r' r)) (lt_or_ge r r')
 
+-- ---- frame_at
+abbrev pub FrameAt : List ℕ → List ℕ → Type 0
+FrameAt digits r = r ≡ ten_bytes (bytes_of digits)
+
+frame_at_says : (κs digits digits' r : _) → Says (λ M 𝓤 𝓛 mem run. frame_at_call.ensures-1 𝓛 κs mem run digits digits' r) (FrameAt digits'.entry.now r)
+frame_at_says κs digits digits' r M 𝓤 𝓛 mem run = refl
+
+pub frame_at_only : (digits r r' : List ℕ) → FrameAt digits r → FrameAt digits r' → r ≡ r'
+frame_at_only digits r r' = only
+
 -- ---- read_line
--- the refusal of a line, and its frame
+-- the refusal of a line, 0 for none
 abbrev pub LineRefusal : List ℕ → Result Frame Refusal → Type 0
 LineRefusal line r = refusal_of r ≡ line_refusal (line_in line)
-
-abbrev pub FrameAt : List ℕ → Result Frame Refusal → Type 0
-FrameAt line r = IfOk r (λ frame. IsFrame frame (bytes_of (line_in line).text))
 
 line_refusal_says : (κs line line' r : _)
     → Says (λ M 𝓤 𝓛 mem run. read_line_call.ensures-refusal 𝓛 κs mem run line line' r) (LineRefusal line'.entry.now r)
 line_refusal_says κs line line' r M 𝓤 𝓛 mem run = refl
 
-frame_at_says : (κs line line' r : _)
-    → Says (λ M 𝓤 𝓛 mem run. read_line_call.ensures-frame 𝓛 κs mem run line line' r) (FrameAt line'.entry.now r)
-frame_at_says κs line line' r M 𝓤 𝓛 mem run = refl
+pub line_refusal_only : (line : List ℕ) (r r' : Result Frame Refusal) → LineRefusal line r → LineRefusal line r' → refusal_of r ≡ refusal_of r'
+line_refusal_only line r r' = only
 
--- a refused line has one answer
-pub line_refusal_only : (line : List ℕ) (d : Refusal) (r : Result Frame Refusal) → LineRefusal line (Err d) → LineRefusal line r → Err d ≡ r
-line_refusal_only line d (Ok f) e e' = absurd (some_number d (e ∙ sym e'))
-line_refusal_only line d (Err d') e e' = ap Err (sym (refusal_back d) ∙ ap refusal_from (e ∙ sym e') ∙ refusal_back d')
+-- and its frame
+abbrev pub LineFrame : List ℕ → Result Frame Refusal → Type 0
+LineFrame line r = IfOk r (λ frame. IsFrame frame (bytes_of (line_in line).text))
 
--- and so has a line with a frame
-pub frame_at_only : (line : List ℕ) (f f' : Frame) → FrameAt line (Ok f) → FrameAt line (Ok f') → f ≡ f'
-frame_at_only line f f' e e' = rw (same_kind f.kind f'.kind (only e.0 e'.0), only e.1 e'.1)
+line_frame_says : (κs line line' r : _)
+    → Says (λ M 𝓤 𝓛 mem run. read_line_call.ensures-frame 𝓛 κs mem run line line' r) (LineFrame line'.entry.now r)
+line_frame_says κs line line' r M 𝓤 𝓛 mem run = refl
 
+-- so a line has one answer
 pub read_line_only : (line : List ℕ) (r r' : Result Frame Refusal)
-    → LineRefusal line r × FrameAt line r → LineRefusal line r' × FrameAt line r' → r ≡ r'
-read_line_only line (Err d) r' e e' = line_refusal_only line d r' e.0 e'.0
-read_line_only line (Ok f) (Err d') e e' = sym (line_refusal_only line d' (Ok f) e'.0 e.0)
-read_line_only line (Ok f) (Ok f') e e' = ap Ok (frame_at_only line f f' e.1 e'.1)
+    → LineRefusal line r × LineFrame line r → LineRefusal line r' × LineFrame line r' → r ≡ r'
+read_line_only line (Err d) (Err d') e e' = ap Err (sym (refusal_back d) ∙ ap refusal_from (only e.0 e'.0) ∙ refusal_back d')
+read_line_only line (Err d) (Ok f') e e' = absurd (some_number d (only e.0 e'.0))
+read_line_only line (Ok f) (Err d') e e' = absurd (some_number d' (only e'.0 e.0))
+read_line_only line (Ok f) (Ok f') e e' = ap Ok (rw (same_kind f.kind f'.kind (only e.1.0 e'.1.0), only e.1.1 e'.1.1))

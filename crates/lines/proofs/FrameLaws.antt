@@ -1,11 +1,14 @@
 -- Ranges of bytes, and the bytes that are no kind.
 -- Assumes nothing.
-use Rattle.std.proofs.Common.{ℕ, zero, suc, ◌≡◌, ◌≤◌, ◌<◌, Bool, true, false, ◌&&◌, refl, ap, arith, nat_le}
+use Rattle.std.proofs.Common.{ℕ, zero, suc, ◌-◌, ◌≡◌, ◌≤◌, ◌<◌, Bool, true, false, cond, ◌&&◌, ◌||◌, refl, ap, arith, nat_le}
+use Rattle.std.specs.Bool.{then_some}
+use Rattle.std.specs.Option.{is_some, unwrap_or}
 use borrow.Author.Tests.{le-leb, lt-leb, ne_eqb}
 use Rattle.tasks.specs.Refusal.{within}
 use Rattle.lines.specs.declared.Kind.{Kind}
 use Rattle.lines.specs.declared.Kind.TheVariants.{Cores, Task, Rates, Limit, Verdict, Slot, End}
 use Rattle.lines.specs.Frame.{sort_of}
+use Rattle.lines.specs.Lines.{is_digit, digit_of}
 use Rattle.lines.specs.Refusal.{is_kind}
 use Rattle.lines.specs.Told.{code_of}
 
@@ -47,3 +50,18 @@ is_known Limit = refl
 is_known Verdict = refl
 is_known Slot = refl
 is_known End = refl
+
+-- what a byte stands for that is a digit, or is none
+pub digit_or_0 : (c : ℕ) → unwrap_or (then_some (is_digit c) (digit_of c)) 0 ≡ digit_of c
+unfolding is_digit digit_of
+digit_or_0 c = go (within 48 57 c) (within 65 70 c)
+  where
+    go : (a b : Bool) → unwrap_or (then_some (a || b) (cond a (c - 48) (cond b (c - 55) 0))) 0 ≡ cond a (c - 48) (cond b (c - 55) 0)
+    go true b = refl
+    go false true = refl
+    go false false = refl
+
+-- what is told of a test that fails
+pub told_not : (b : Bool) (x : ℕ) → is_some (then_some b x) ≡ false → b ≡ false
+told_not true x e = e
+told_not false x e = refl

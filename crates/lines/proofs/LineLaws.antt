@@ -1,11 +1,10 @@
 -- A text cut at line feeds; pairs of digits, and the bytes they stand for.
 -- Assumes nothing.
 use Prim.Native.Nat.{ℕ, zero, suc, ◌+◌, ◌*◌, ◌/◌, ◌%◌, ◌≤◌, ◌<◌}
-use native.Mathlib.Decide.{ℕ_discrete}
 use native.Mathlib.Omega.{arith}
 use mathlib.Core.Path.{◌≡◌, refl, sym, ap, ◌∙◌}
 use mathlib.Core.Logic.{◌≢◌, ⊎_elim}
-use mathlib.Core.Bool.{Bool, true, false, ◌&&◌, and-false}
+use mathlib.Core.Bool.{true, false, and-false}
 use mathlib.Core.List.{List, [], ◌∷◌, ◌++◌, append-nil}
 use borrow.Author.Tests.{lt-ltb, le-ltb, eq-eqb, ne_eqb}
 use lib.Dec.{ltb, leb-suc-suc}
@@ -13,8 +12,6 @@ use lib.ListN.{length, set, take, drop, length-take, length-append, get_or-eq_de
 use lib.Seq.{take_all, get_or-take, drop-append_seam}
 use Rattle.std.proofs.Common.{◌-◌, min, pred, nat_eq, drop-cons, get_or, get_or-drop, Bor, Option, None, Some, MatchOption}
 use Rattle.std.proofs.lemmas.List.{take-append-le}
-use Rattle.std.specs.Bool.{then_some}
-use Rattle.std.proofs.lemmas.Option.{none-some, same_Some}
 use Rattle.std.specs.Simd.{first_chunks}
 use Rattle.std.specs.Cmp.Lexicographic.{pointwise, same_text, other_text}
 use native.Mathlib.Nat.{add-zero}
@@ -135,13 +132,6 @@ all_pairs (a ∷ b ∷ s) e d = rw (d 0 (omega arith), d 1 (omega arith)) (all_p
 abbrev pub DigitsBelow : ℕ → List ℕ → Type 0
 DigitsBelow n s = (k : ℕ) → k < n → is_digit (nth s k) ≡ true
 
--- one pair more
-pub digits_more : (n : ℕ) (s : List ℕ) → DigitsBelow n s → is_digit (nth s n) ≡ true → is_digit (nth s (n + 1)) ≡ true → DigitsBelow (n + 2) s
-digits_more n s d a b k l = elim (ℕ_discrete k n) [
-  | yes e ↦ ap (λ j. is_digit (nth s j)) e ∙ a
-  | no x ↦ elim (ℕ_discrete k (n + 1)) [ yes e ↦ ap (λ j. is_digit (nth s j)) e ∙ b | no y ↦ d k (omega arith) ]
-]
-
 -- the digits of a pair
 pub pair_at : (s : List ℕ) (n k : ℕ) → k < n
     → (nth (get_or (first_chunks 2 n s) k []) 0 ≡ nth s (k * 2)) × (nth (get_or (first_chunks 2 n s) k []) 1 ≡ nth s (k * 2 + 1))
@@ -170,23 +160,6 @@ byte_at (a ∷ b ∷ s) (suc k) h =
     let p : suc k * 2 + 1 ≡ suc (suc (k * 2 + 1)) = omega arith in
     let q : suc k * 2 ≡ suc (suc (k * 2)) = omega arith in
     rw (p, q) (byte_at s k (omega arith))
-
--- what is told of a test and a value
-pub told_none : {A : Type 0} (b : Bool) (x : A) → None ≡ then_some b x → b ≡ false
-told_none true x e = absurd (none-some x e)
-told_none false x e = refl
-
-pub told_some : {A : Type 0} (b : Bool) (x y : A) → Some y ≡ then_some b x → (b ≡ true) × (y ≡ x)
-told_some true x y e = (refl, same_Some y x e)
-told_some false x y e = absurd (none-some y (sym e))
-
--- a pair that is not of digits
-pub pair_refused : (s : List ℕ) (k : ℕ) → k * 2 + 1 < length s → is_digit (nth s (k * 2)) && is_digit (nth s (k * 2 + 1)) ≡ false → pairs s ≡ false
-pair_refused s k l e = go (is_digit (nth s (k * 2))) refl
-  where
-    go : (b : Bool) → is_digit (nth s (k * 2)) ≡ b → pairs s ≡ false
-    go true q = other_none s (k * 2 + 1) l (ap (λ b. b && is_digit (nth s (k * 2 + 1))) (sym q) ∙ e)
-    go false q = other_none s (k * 2) (omega arith) q
 
 -- ---- a frame, byte by byte
 module _ (bytes : List ℕ) where

@@ -98,29 +98,41 @@ fn digit(c: u8) -> Option<u8>
     }
 }
 
-// The byte of a pair of digits.
-fn byte_of(high: u8, low: u8) -> Option<u8>
-    ensures { result ≡ then_some (is_digit high && is_digit low) (digit_of high * 16 + digit_of low) }
+// The same, and 0 for any other byte.
+#[tactic(auto, using(crate::proofs::FrameLaws::digit_or_0))]
+fn value(c: u8) -> u8
+    ensures { (result ≡ digit_of c) × (result ≤ 15) }
 {
-    Some(digit(high)? * 16 + digit(low)?)
+    digit(c).unwrap_or(0)
 }
 
-// The first ten of the bytes that pairs of digits stand for, filled up with 0; none of anything else.
-fn read_bytes(digits: &[u8]) -> Option<[u8; 10]>
-    ensures { result ≡ then_some (pairs digits.now) (ten_bytes (bytes_of digits.now)) }
+// Whether a text is made of pairs of 0-9A-F.
+fn are_pairs(text: &[u8]) -> bool
+    ensures { result ≡ pairs text.now }
 {
-    let (pairs, rest) = digits.as_chunks::<2>();
-    if !rest.is_empty() {
-        return None;
+    if text.len() % 2 != 0 {
+        return false;
     }
-    let mut bytes = [0; 10];
-    for (k, [high, low]) in pairs.iter().enumerate() {
-        let byte = byte_of(*high, *low)?;
-        if k < 10 {
-            bytes[k] = byte;
+    for c in text {
+        if digit(*c).is_none() {
+            return false;
         }
     }
-    Some(bytes)
+    true
+}
+
+// The first ten of the bytes that pairs of digits stand for, filled up with 0.
+pub fn frame_at(digits: &[u8]) -> [u8; 10]
+    ensures { result ≡ ten_bytes (bytes_of digits.now) }
+{
+    let (pairs, _) = digits.as_chunks::<2>();
+    let mut bytes = [0; 10];
+    for (k, [high, low]) in pairs.iter().enumerate() {
+        if k < 10 {
+            bytes[k] = value(*high) * 16 + value(*low);
+        }
+    }
+    bytes
 }
 
 // The digit of a number below 16.
@@ -169,7 +181,11 @@ pub fn read_line(line: &[u8]) -> Result<Frame, Refusal>
     if digits.is_empty() {
         return Err(Refusal::Line);
     }
-    let bytes = read_bytes(digits).ok_or(Refusal::Line)?;
+    let paired = are_pairs(digits);
+    if !paired {
+        return Err(Refusal::Line);
+    }
+    let bytes = frame_at(digits);
     let kind = test_frame(bytes[0], digits.len() / 2)?;
     Ok(Frame { kind, bytes })
 }

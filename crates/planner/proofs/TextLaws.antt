@@ -65,7 +65,7 @@ module _ (text : List ℕ) (t : List ℕ) where
     pub list_refused : (r : Refusal) → tested_as (Err r) ≡ tested m ts → planned_text (Err r) t ≡ answer_to text
     unfolding search_refusal
     list_refused r h =
-        let is = tested_refused m ts (Err r) h r refl in
+        let is = (tested_refused m ts (Err r) h r refl).0 in
         refusal_told r (refused_told m ts e b (replicate 4096 0) (number_of r) (sym (or_first _ _ _ is (some_number r))) (some_number r))
 
     -- by its engine

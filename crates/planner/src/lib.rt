@@ -19,7 +19,7 @@ struct Planned {
 }
 
 // Reads a problem and searches; a table that is found stands in the buffer.
-fn plan(text: &[u8], table: &mut [u8; 4096]) -> Result<Planned, Refusal>
+fn search_text(text: &[u8], table: &mut [u8; 4096]) -> Result<Planned, Refusal>
     requires { table.old ≡ replicate 4096 0 }
     ensures text { planned_text result table.new ≡ answer_to text.now }
     ensures size { IfOk result (λ p. (p.slots.0 ≤ 1024) × (p.m ≤ 4)) }
@@ -38,7 +38,7 @@ pub fn plan_text(text: &[u8], out: &mut [u8]) -> Option<usize>
     ensures written { Written (leb 15376 (length out.old)) (answer_to text.now) out.old (unwrap_or result 0) out.new }
 {
     let mut table = [0; 4096];
-    match plan(text, &mut table) {
+    match search_text(text, &mut table) {
         Ok(planned) => answer::write_answer(
             u8::from(planned.answer.outcome),
             planned.answer.tries,

@@ -50,7 +50,7 @@ module _ (m : ℕ) (ts : List Task) (t : List ℕ) where
   -- a list is refused by its own number
   pub list_refused : (r : Refusal) → tested_as (Err r) ≡ tested m ts → number_of r ≡ start_refusal m ts t
   list_refused r e =
-      let q = tested_refused m ts (Err r) e r refl in
+      let q = (tested_refused m ts (Err r) e r refl).0 in
       q ∙ sym (ap check_refusal (check_refused m ts t (λ z. some_number r (q ∙ z))))
 
   -- a table by the checker's

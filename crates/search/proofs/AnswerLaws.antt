@@ -45,7 +45,7 @@ module _ (m : ℕ) (ts : List Task) (e b : ℕ) (buffer : List ℕ) where
   -- of the list
   pub list_refused : (r : Refusal) → tested_as (Err r) ≡ tested m ts → searched_as (Err r) buffer ≡ search m ts e b buffer
   unfolding search_refusal
-  list_refused r h = refused_by r (or_first _ _ _ (tested_refused m ts (Err r) h r refl) (some_number r))
+  list_refused r h = refused_by r (or_first _ _ _ (tested_refused m ts (Err r) h r refl).0 (some_number r))
 
   module _ (L : Slots) (told : tested_as (Ok L) ≡ tested m ts) where
     -- of the engine

@@ -199,9 +199,9 @@ module _ (m : ℕ) (ts : List Task) (s : Result Slots Refusal) (e : tested_as s 
       go (suc r) e = let z : ◌≡◌ {A = ℕ} 0 1 = cc in absurd (omega arith)
 
   -- the number of what is told of a list refuses it
-  pub tested_refused : (r : Refusal) → s ≡ Err r → number_of r ≡ refusal m ts
+  pub tested_refused : (r : Refusal) → s ≡ Err r → (number_of r ≡ refusal m ts) × (number_of r ≢ 0)
   unfolding tested
-  tested_refused r q = go (refusal m ts) (sym (ap tested_as q) ∙ e)
+  tested_refused r q = (go (refusal m ts) (sym (ap tested_as q) ∙ e), some_number r)
     where
       go : (k : ℕ) → refused (number_of r) ≡ tested_if k (table_length ts) → number_of r ≡ k
       go zero e = let z : ◌≡◌ {A = ℕ} 0 1 = cc in absurd (omega arith)

@@ -1,6 +1,7 @@
 -- What a call of each public function ensures, as its contract says, and that it leaves one answer.
 -- Assumes nothing.
 use Prim.Native.Nat.{ℕ}
+use mathlib.Core.Logic.{◌≢◌}
 use mathlib.Core.Path.{◌≡◌, refl, ap}
 use mathlib.Core.List.{List}
 use Rattle.std.specs.Prelude.{Result, Ok, Err}
@@ -71,5 +72,5 @@ pub test_list_sound : (ts : List Task) (m : ℕ) (h : Slots) → TestList ts m (
 test_list_sound ts m h e = tested_sound m ts (Ok h) e h refl
 
 -- refused, by that number
-pub test_list_refused : (ts : List Task) (m : ℕ) (r : Refusal) → TestList ts m (Err r) → number_of r ≡ refusal m ts
+pub test_list_refused : (ts : List Task) (m : ℕ) (r : Refusal) → TestList ts m (Err r) → (number_of r ≡ refusal m ts) × (number_of r ≢ 0)
 test_list_refused ts m r e = tested_refused m ts (Err r) e r refl

@@ -1,4 +1,4 @@
--- `planner::plan` meets its contract: what refuses the text, its list or its search is told, else what the search answers.
+-- `planner::search_text` meets its contract: what refuses the text, its list or its search is told, else what the search answers.
 -- Assumes nothing.
 use Rattle.std.proofs.Common.{refl, ap, ◌∙◌}
 use Rattle.std.proofs.lemmas.Result.{err_from_is_err_and}
@@ -7,7 +7,7 @@ use Rattle.tasks.proofs.AnswerLaws.{tested_sound}
 use Rattle.rules.specs.Search.{search}
 use Rattle.frames.specs.Read.{problem}
 use Rattle.planner.proofs.TextLaws.{text_refused, list_refused, search_refused, searched_told, size_few}
-use Rattle.planner.proofs.plan.Goals as goal
+use Rattle.planner.proofs.search_text.Goals as goal
 
 pub returns-in_err-problem-clause-text : goal.returns-in_err-problem-clause-text
 returns-in_err-problem-clause-text c =
