@@ -11,10 +11,12 @@ ghost use Rattle.fill.specs.Grid.{entry_for, entries_of, end_mark, rates_of, eve
 use grid::Grid;
 use tasks::{Rates, Slots, Task};
 
-// Twice the counter of a task in a slot where it is closed. A counter like the others and no Option: the walk reads it untested.
+// Twice the counter of a task in a slot where it is closed. A counter like the others and no Option,
+// which would take twice the room: the walk reads it untested.
 const CLOSED: u16 = 32768;
 
-// The grid's entry for task v in a slot: twice the counter of its job, and 1 more where nothing of the job is to come.
+// The grid's entry for task v in a slot: twice the counter of its job, and 1 more where nothing of the job is to come. (The counter
+// is that of `counter_of` of `faults`, which is an index.)
 #[tactic(auto, using(crate::proofs::FillLaws::few_jobs, crate::proofs::FillLaws::entry_end, crate::proofs::FillLaws::entry_early, crate::proofs::FillLaws::entry_closed))]
 fn entry(len: Slots, t: Task, v: u16, slot: Slots) -> u16
     requires { Fit len.0 t × (v < 16) × (slot.0 < len.0) }
@@ -33,7 +35,7 @@ fn entry(len: Slots, t: Task, v: u16, slot: Slots) -> u16
     }
 }
 
-// The entries, slot by slot. That a list has at most 16 tasks is asked of the slice, here and below: the tests of a list give it.
+// The entries, slot by slot. That a list has at most 16 tasks is asked of the slice, here and below, as `fill_grid` asks it.
 #[tactic(auto, using(crate::proofs::FillLaws::rows_none, crate::proofs::FillLaws::rows_next, laws::proofs::ListLaws::filled_none, laws::proofs::ListLaws::filled_next))]
 fn fill_entries(entries: &mut [u16; 16384], tasks: &[Task], len: Slots)
     requires { (length tasks.now ≤ 16) × (len.0 ≤ 1024) × ((k : ℕ) → k < length tasks.now → Fit len.0 (task tasks.now (suc k))) }

@@ -6,7 +6,7 @@
 // Tasks and cores count from 0 here. A core is a plain number below 4, since it counts loops and is an index.
 // Entries, rates and twins have one index each, as the walk's definitions count, and no rows within rows.
 // Beside the grid stands `left`, the work left of each job at its counter, job * 16 + task; its last place, 16384, is the
-// counter of a task in a slot where it is closed, and is always 0.
+// counter of a task in a slot where it is closed, and is always 0. It is a fixed array, since there is no heap.
 #![tactic(auto)]
 
 ghost use Rattle.std.specs.Prelude.{◌≡◌, ◌+◌, ◌≤◌, ◌<◌, ltb};
@@ -20,7 +20,8 @@ pub struct Grid {
     // For slot t and task v, at t * 16 + v: twice the counter of the task's job there, and 1 more in its highest-numbered slot.
     // One number of 16 bits and no struct, which would take twice the room on the stack.
     pub entries: [u16; 16384],
-    // For each slot the first task whose job has its highest-numbered slot there; the task count if there is none.
+    // For each slot the first task whose job has its highest-numbered slot there; the task count if there is none, so that the
+    // range of tasks from there on is empty.
     pub ends: [u16; 1024],
     // Of task v on core c, at v * 4 + c.
     pub rates: [u16; 64],

@@ -65,8 +65,8 @@ fn fill_left(left: &mut [u16; 16385], tasks: &[Task])
     }
 }
 
-// The walk over the cells of a sound list, from `start` tries on. Of a call's arguments each function from here to `search` takes
-// others, one by one: a struct of them would be taken apart at each.
+// The walk over the cells of a sound list, from `start` tries on. A call's arguments go on
+// one by one: `fill_grid`, which promises a grid for any engine and list, takes them so.
 fn walk_cells(
     tasks: &[Task],
     m: u8,

@@ -1,4 +1,5 @@
 // Sets of tasks, one for each of four cores, as the bits of one number: task v, from 0, on core c is bit 4 * v + c.
+// A number and no collection: the walk keeps it in a register, and rules A and B meet two of them in one step.
 #![tactic(auto)]
 
 ghost use Rattle.std.specs.Prelude.{◌≡◌, ◌*◌, ◌^◌, ◌<◌};

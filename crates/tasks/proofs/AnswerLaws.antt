@@ -26,7 +26,7 @@ use Rattle.tasks.specs.Task.{task}
 use Rattle.tasks.specs.Refusal.{most_rate, period_at, within, unless, or_next, rates_fit, task_refusal, list_refusal, table_length, refusal, IsSound, fits_if, length_of, sound, refused, tested_if, tested, Periods}
 use Rattle.tasks.specs.Told.{number_of, tested_as}
 use Rattle.tasks.proofs.SoundLaws.{rates_at, list_range}
-use Rattle.tasks.proofs.RefusalLaws.{some_number, refusal_from, named}
+use Rattle.tasks.proofs.RefusalLaws.{some_number}
 
 -- ---- ranges and rates
 -- the most that a rate may be on a core of the board
@@ -182,10 +182,6 @@ refusal_most m ts = unless_most _ (omega arith) (unless_most _ (omega arith) (go
     go : (b : Bool) → cond b (unless (leb (table_length ts) 1024) 8 0) (list_refusal m ts) ≤ 8
     go true = unless_most _ {k = 8} {next = 0} (omega arith) (omega arith)
     go false = list_most m ts
-
--- so it is the number of a refusal
-pub list_named : (m : ℕ) (ts : List Task) → refusal m ts ≢ 0 → number_of (refusal_from (refusal m ts)) ≡ refusal m ts
-list_named m ts x = named (refusal m ts) x (omega (arith, refusal_most m ts))
 
 -- ---- what the answer of a list says
 module _ (m : ℕ) (ts : List Task) (s : Result Slots Refusal) (e : tested_as s ≡ tested m ts) where

@@ -15,7 +15,8 @@ use tasks::{Slots, Work, work_in};
 // The tries are counted up to here.
 pub const FULL: u32 = u32::MAX;
 
-// How a walk ends.
+// How a walk ends. No failure is among the three, so there is no Result and no `?`; and by the machine code a Result of the tries
+// goes through memory. The verdicts and their numbers are the search's (`Outcome` of `search`).
 #[derive(Clone, Copy, PartialEq, Eq)]
 pub enum End {
     Found,
