@@ -79,8 +79,7 @@ fn put_answer(verdict: u8, tries: u32, shown: u16, m: u8, table: &[u8], out: &mu
 }
 
 // Writes an answer, and gives how many bytes it has; none where it cannot be written. The verdict is a number, that of a search's
-// outcome or of any refusal, as an 05 line has it. What the answer
-// is made of is handed over one by one, as the planner has it.
+// outcome or of any refusal, as an 05 line has it.
 pub fn write_answer(
     verdict: u8,
     tries: u32,

@@ -17,7 +17,6 @@ pub enum Fault {
     Job { task: u8, job: u16, kind: Kind },
 }
 
-// An idle cell. A table's cells are numbers, as C lends them and the player's record keeps them.
 const IDLE: u8 = 0;
 
 // What a cell does for a job: the job's counter and its work, and the units that the cell does.

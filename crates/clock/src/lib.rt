@@ -106,7 +106,7 @@ fn offset_of(offsets: [u16; 16], cell: u8) -> u16
     offsets.get(place).copied().unwrap_or(0)
 }
 
-// A cell as it is shown on a core. (In the closure of `show`, with fewer arguments, its proof did not close.)
+// A cell as it is shown on a core.
 #[tactic(auto, unfolding(laws::specs::Sum::gate))]
 fn cell_of(m: u8, n: u8, age: Slots, offsets: [u16; 16], core: u8, cell: u8) -> u8
     ensures { result ≡ cell_of m n age.0 offsets core cell }

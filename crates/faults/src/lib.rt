@@ -34,7 +34,7 @@ impl From<Kind> for u8 {
 // Options would take twice the room.
 const UNNEEDED: u16 = u16::MAX;
 
-// The counts of all jobs, each at its counter: a fixed array, since there is no heap.
+// The counts of all jobs, each at its counter.
 pub type Counts = [u16; 16384];
 
 // Whether a task stands on none of the earlier cores of the slot that begins at cell `first`.
@@ -45,8 +45,7 @@ pub fn free(table: &[u8], first: usize, core: u8, task: u8) -> bool
     !table[first..first + usize::from(core)].contains(&task)
 }
 
-// The counter of a job of the task at a place of the list, from 0: in the job's row of 16. An index; an entry of the grid has the
-// same in 16 bits (`entry` of `fill`).
+// The counter of a job of the task at a place of the list, from 0: in the job's row of 16.
 pub fn counter_of(place: u8, job: u16) -> usize
     ensures { result ≡ counter_at place job }
 {

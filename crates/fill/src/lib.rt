@@ -33,7 +33,7 @@ fn entry(len: Slots, t: Task, v: u16, slot: Slots) -> u16
     }
 }
 
-// The entries, slot by slot. That a list has at most 16 tasks is asked of the slice, here and below: the tests of a list give it.
+// The entries, slot by slot.
 #[tactic(auto, using(crate::proofs::FillLaws::rows_none, crate::proofs::FillLaws::rows_next, laws::proofs::ListLaws::filled_none, laws::proofs::ListLaws::filled_next))]
 fn fill_entries(entries: &mut [u16; 16384], tasks: &[Task], len: Slots)
     requires { (length tasks.now ≤ 16) × (len.0 ≤ 1024) × ((k : ℕ) → k < length tasks.now → Fit len.0 (task tasks.now (suc k))) }

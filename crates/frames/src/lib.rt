@@ -15,7 +15,7 @@ use tasks::{MAX_TASKS, Rates, Refusal, Slots, Task, Work};
 // A file over this is refused.
 const MAX_TEXT: usize = 1024;
 
-// The engine where 04 is left out (RULES 8.4), by its number, as an 04 has it.
+// The engine where 04 is left out (RULES 8.4).
 const ENGINE_LEFT_OUT: u8 = 1;
 
 // The limit where 04 is left out.

@@ -3,8 +3,7 @@
 // `OnGrid` is asked where it is needed and is no invariant of the type: `rate`, `bars_idle` and `floor` read any grid.
 //
 // A set is one number of crate `sets`. For the plain engine rule A's set is empty and no cores are marked as twins.
-// Tasks and cores count from 0 here. A core is a plain number below 4, since it counts loops and is an index.
-// Entries, rates and twins have one index each, as the walk's definitions count, and no rows within rows.
+// Tasks and cores count from 0 here.
 // Beside the grid stands `left`, the work left of each job at its counter, job * 16 + task; its last place, 16384, is the
 // counter of a task in a slot where it is closed, and is always 0.
 #![tactic(auto)]

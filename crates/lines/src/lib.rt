@@ -79,7 +79,7 @@ impl Kind {
     }
 }
 
-// A frame: its kind, and its bytes, filled up with 0. Ten are the most that a kind has, and there is no heap.
+// A frame: its kind, and its bytes, filled up with 0.
 #[derive(Clone, Copy)]
 pub struct Frame {
     pub kind: Kind,

@@ -12,10 +12,10 @@ use tasks::{Refusal, Slots};
 
 // What a problem's search answers, with the slots and the cores of its table.
 #[derive(Clone, Copy)]
-struct Planned {
-    answer: Answer,
-    slots: Slots,
-    m: u8,
+pub struct Planned {
+    pub answer: Answer,
+    pub slots: Slots,
+    pub m: u8,
 }
 
 // Reads a problem and searches; a table that is found stands in the buffer.

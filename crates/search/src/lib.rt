@@ -65,8 +65,7 @@ fn fill_left(left: &mut [u16; 16385], tasks: &[Task])
     }
 }
 
-// The walk over the cells of a sound list, from `start` tries on. Of a call's arguments each function from here to `search` takes
-// others, one by one: a struct of them would be taken apart at each.
+// The walk over the cells of a sound list, from `start` tries on.
 fn walk_cells(
     tasks: &[Task],
     m: u8,
