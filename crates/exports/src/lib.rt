@@ -106,6 +106,7 @@ fn tell(answer: Result<Shown, Refusal>, cells: &mut [u8; 4]) -> u64
 {
     match answer {
         Ok(shown) => {
+            // by way of a value of its own: stored from the field, the proof does not close
             let four = shown.cells;
             *cells = four;
             with_verdict(0, shown.missed)

@@ -1,7 +1,7 @@
 // The walk's grid of a sound list: the entries, the marks of the slots in which jobs end, the rates, and what rules A and B test.
 #![tactic(auto)]
 
-ghost use Rattle.std.specs.Prelude.{◌≡◌, ℕ, suc, ◌≤◌, ◌<◌, ◌&&◌, length};
+ghost use Rattle.std.specs.Prelude.{◌≡◌, ℕ, suc, ◌≤◌, ◌<◌, length};
 ghost use Rattle.laws.specs.Lists.{filled};
 ghost use Rattle.tasks.specs.Task.{task};
 ghost use Rattle.windows.specs.Answer.{Fit};

@@ -9,8 +9,7 @@
 // counter of a task in a slot where it is closed, and is always 0. It is a fixed array, since there is no heap.
 #![tactic(auto)]
 
-ghost use Rattle.std.specs.Prelude.{◌≡◌, ◌+◌, ◌≤◌, ◌<◌, ltb};
-ghost use Rattle.laws.specs.Sum.{gate};
+ghost use Rattle.std.specs.Prelude.{◌≡◌, ◌+◌, ◌≤◌, ◌<◌};
 ghost use Rattle.grid.specs.Grid.{counter_on, rate_on, sets_on, bars_idle, twin_rank_on, floor_on, settled_on, first_due_on, due_on, starves as starves_of, tasks_on, OnGrid};
 
 use tasks::Work;

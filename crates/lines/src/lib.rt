@@ -1,7 +1,7 @@
 // Lines: a frame's kind and length, and a frame as its line of digits, read and written.
 #![tactic(auto)]
 
-ghost use Rattle.std.specs.Prelude.{◌≡◌, ◌&&◌, ◌+◌, ◌*◌, ◌≤◌, IfOk, IfSome, length};
+ghost use Rattle.std.specs.Prelude.{◌≡◌, ◌+◌, ◌*◌, ◌≤◌, IfOk, IfSome, length};
 ghost use Rattle.std.specs.Bool.{then_some};
 ghost use Rattle.laws.specs.Lists.{over};
 ghost use Rattle.tasks.specs.Told.{refusal_of};
