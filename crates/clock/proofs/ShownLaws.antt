@@ -31,6 +31,14 @@ module _ (m n age offset j v : ℕ) where
   pub shown_is : (i : ℕ) → i ≢ 0 → shown_cell m n age offset j v ≡ i → (v ≡ i) × (v ≤ n) × (offset ≤ age) × (j < m)
   shown_is i x e = let h = through _ v i x e in let b = passed h.0 in (h.1, b.0, b.1, b.2)
 
+  -- a cell above the task count is shown as 0
+  pub shown_above : n < v → shown_cell m n age offset j v ≡ 0
+  shown_above l = gate_no _ v (λ t. omega (arith, (passed t).0))
+
+  -- so is one whose task's offset exceeds age
+  pub shown_early : age < offset → shown_cell m n age offset j v ≡ 0
+  shown_early l = gate_no _ v (λ t. omega (arith, (passed t).1))
+
   -- and one on a core that the board lacks
   pub shown_beyond : m ≤ j → shown_cell m n age offset j v ≡ 0
   shown_beyond l = gate_no _ v (λ t. omega (arith, (passed t).2))

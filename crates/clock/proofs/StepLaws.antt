@@ -61,8 +61,11 @@ module _ {h position age m n : ℕ} (x : ℕ) (u : Unspoilt h position age m n) 
   slot_below l = omega (arith, mod-lt x u.some_slot, u.few_slots)
 
   -- its cells begin four before the end of the table's room or earlier
-  cells_at : x % h * m ≤ 4092
+  pub cells_at : x % h * m ≤ 4092
   cells_at = mul-le-mul {n₂ = 1023} {m₂ = 4} (omega (arith, mod-lt x u.some_slot, u.few_slots)) u.few_cores
+
+  pub cells_below : {b : ℕ} → 4096 ≤ b → x % h * m < b
+  cells_below l = omega (arith, cells_at)
 
 module _ (last h position age m n tick : ℕ) where
   abbrev refusal : ℕ

@@ -11,15 +11,16 @@ use Rattle.std.specs.List.{list_any}
 use Rattle.std.proofs.Common.{length-drop, add-one}
 use Rattle.std.proofs.lemmas.List.{get_or-drop}
 use Rattle.std.proofs.lemmas.List.Folds.{list_any_more}
-use lib.Dec.{T, ltb, eqb}
-use borrow.Author.Tests.{ne_eqb, lt-ltb, le-ltb}
-use Rattle.laws.specs.Lists.{seek}
+use lib.Dec.{T, ltb, eqb, T_not}
+use borrow.Author.Tests.{eq-eqb, ne_eqb, lt-ltb, le-ltb}
+use Rattle.laws.specs.Lists.{nth, seek}
+use Rattle.laws.proofs.TestLaws.{all_false, all_true}
 use Rattle.laws.proofs.ListLaws.{seek_is, seek_none}
 use Rattle.table.specs.Fault.{work_kind}
-use Rattle.table.proofs.WorkLaws.{work_unneeded}
+use Rattle.table.proofs.WorkLaws.{work_little, work_unneeded, work_met}
 use Rattle.faults.specs.declared.Kind.{Kind}
 use Rattle.faults.specs.declared.Kind.TheVariants.{UnknownTask, TaskClosed, Rate0, AlreadyInSlot, TooLittleWork, AfterComplete}
-use Rattle.faults.specs.Tests.{free_in, unneeded, count_of, counted, count_kind, first_fault}
+use Rattle.faults.specs.Tests.{free_in, counter_at, unneeded, count_of, counted, count_kind, counted_kind, first_fault}
 use Rattle.faults.specs.Told.{kind_number, job_told}
 
 -- ---- kinds
@@ -54,7 +55,43 @@ free_told t first core v n l e q =
     let few : first + n - first ≡ core = omega arith in
     ap not q ∙ ap (λ k. not (list_any (λ y. eqb y v) (take k (drop first t)))) few ∙ free_is t first core v l
 
+-- it stands on an earlier core
+pub free_not : (t : List ℕ) (first core v j : ℕ) → j < core → nth t (first + j) ≡ v → false ≡ free_in t first core v
+unfolding free_in
+free_not t first core v j l e = sym (all_false core _ j l (ap not (eq-eqb (nth t (first + j)) v e)))
+
+-- it stands on none
+pub free_yes : (t : List ℕ) (first core v : ℕ) → ((k : ℕ) → k < core → nth t (first + k) ≡ v → ⊥) → true ≡ free_in t first core v
+unfolding free_in
+free_yes t first core v none = sym (all_true core _ (λ k l. ap not (ne_eqb (nth t (first + k)) v (none k l))))
+
 -- ---- the count of a job
+module _ (C x : ℕ) where
+  -- with a cell that is needed
+  pub counted_needed : (s : ℕ) → x < C → x + s ≡ counted C x s
+  unfolding counted
+  counted_needed s l = rw (lt-ltb x C l)
+
+  -- with one that is not
+  pub counted_unneeded : (s : ℕ) → C ≤ x → unneeded ≡ counted C x s
+  unfolding counted
+  counted_unneeded s l = rw (le-ltb x C l)
+
+  -- its fault: too little work
+  pub count_little : x < C → 5 ≡ count_kind C x
+  unfolding count_kind
+  count_little l = sym (work_little C x _ l)
+
+  -- a cell after the job was complete
+  pub count_unneeded : C ≤ x → x ≡ unneeded → 6 ≡ count_kind C x
+  unfolding count_kind
+  count_unneeded l e = sym (work_unneeded C x (not (eqb x unneeded)) l (λ t. T_not (eqb x unneeded) t (rw (eq-eqb x unneeded e) tt)))
+
+  -- none
+  pub count_met : C ≤ x → x ≢ unneeded → 0 ≡ count_kind C x
+  unfolding count_kind
+  count_met l y = sym (work_met C x _ l (rw (ne_eqb x unneeded y) tt))
+
 module _ (C d : ℕ) (few : C ≤ unneeded) where
   -- the count of a job that has done d, with one more cell
   pub counted_count : (needed : Bool) (s : ℕ) → counted C (count_of needed d) s ≡ count_of (needed && ltb d C) (d + s)
@@ -67,6 +104,11 @@ module _ (C d : ℕ) (few : C ≤ unneeded) where
   unfolding count_kind count_of
   count_kind_lem true y h = rw (ne_eqb d unneeded (y tt))
   count_kind_lem false y h = work_unneeded C unneeded _ few (λ t. t) ∙ sym (work_unneeded C d false (h (λ t. t)) (λ t. t))
+
+-- ---- the fault of a job, as its counter tells it
+pub counted_is : (counters : List ℕ) (place C k : ℕ) {x kind : ℕ} → x ≡ counter_at place k → kind ≡ count_kind C (nth counters x) → kind ≡ counted_kind counters place C k
+unfolding counted_kind
+counted_is counters place C k e q = q ∙ ap (λ x. count_kind C (nth counters x)) e
 
 -- ---- the jobs of a task
 -- the first faulty one is found

@@ -1,16 +1,16 @@
 -- Laws of lists made from a rule, of the first place at which a rule gives a number that is not 0, and of stores.
 -- Assumes nothing.
-use Prim.Native.Nat.{ℕ, zero, suc, ◌+◌, ◌≤◌, ◌<◌}
+use Prim.Native.Nat.{ℕ, zero, suc, ◌+◌, ◌-◌, ◌≤◌, ◌<◌}
 use native.Mathlib.Omega.{arith}
 use native.Mathlib.Decide.{ℕ_discrete}
 use mathlib.Core.Path.{◌≡◌, refl, sym, ap, ◌∙◌}
-use mathlib.Core.Logic.{◌≢◌, ⊎_elim}
-use mathlib.Core.List.{List}
+use mathlib.Core.Logic.{◌≢◌, ◌⊎◌, inl, inr, ⊎_elim}
+use mathlib.Core.List.{List, [], ◌∷◌, ◌++◌}
 use native.Mathlib.Numerals.{add-one}
 use native.Mathlib.Nat.{add-zero, zero-add}
-use lib.ListN.{length, get_or, set, length-set}
-use lib.Seq.{get_or-set_same, get_or-set_other, ext_get_or}
-use Rattle.laws.specs.Lists.{nth, tab_from, tab, or_later, seek, first_of, filled}
+use lib.ListN.{length, take, drop, get_or, set, replicate, length-set, length-append, length-drop, get_or-append}
+use lib.Seq.{sets, get_or-set_same, get_or-set_other, get_or-append-add, get_or-drop, get_or-take, length-take-le, ext_get_or}
+use Rattle.laws.specs.Lists.{nth, tab_from, tab, over, or_later, seek, first_of, filled}
 use Rattle.laws.proofs.SumLaws.{gate_lt, gate_ge, lt_or_ge}
 
 module _ {A : Type 0} where
@@ -160,6 +160,52 @@ pub filled_next : (s : List ℕ) (a n : ℕ) (g : ℕ → ℕ) (r : List ℕ) (x
 unfolding filled
 filled_next s a n g r x er ex = rw add-one (λ i. set (er i) (a + n) (ex i))
 
+-- a list stored from the start on is written over it
+pub filled_over : (n : ℕ) (s : List ℕ) (g : ℕ → ℕ) → n ≤ length s → filled s 0 n g ≡ over (tab n g) s
+unfolding over
+filled_over n s g room = ext_get_or 0 _ _ (filled_length s 0 n g ∙ sym size) (λ i l. ⊎_elim (inside i) (outside i (rw (filled_length s 0 n g) at l)) (lt_or_ge i n))
+  where
+    size : length (tab n g ++ drop (length (tab n g)) s) ≡ length s
+    size = rw (tab_length n g, length-append, length-drop, tab_length n g) (omega arith)
+
+    inside : (i : ℕ) → i < n → nth (filled s 0 n g) i ≡ nth (tab n g ++ drop (length (tab n g)) s) i
+    inside i l = ap (nth (filled s 0 n g)) (sym (zero-add i)) ∙ filled_at s 0 n g i l (omega arith) ∙ sym (tab_at n g i 0 l) ∙ sym (get_or-append (tab n g) (drop (length (tab n g)) s) 0 i (rw (tab_length n g) l))
+
+    outside : (i : ℕ) → i < length s → n ≤ i → nth (filled s 0 n g) i ≡ nth (tab n g ++ drop (length (tab n g)) s) i
+    outside i li l = filled_behind s 0 n g i (omega arith) ∙ sym (rw (tab_length n g)
+        (ap (nth (tab n g ++ drop n s)) (omega (arith, tab_length n g)) ∙ get_or-append-add (tab n g) (drop n s) (i - n) 0 ∙ get_or-drop n s (i - n) 0 ∙ ap (nth s) (omega arith)))
+
+-- the first n places of a list
+pub tab_take : (n : ℕ) (s : List ℕ) → n ≤ length s → tab n (nth s) ≡ take n s
+tab_take n s room = ext_get_or 0 _ _ (tab_length n (nth s) ∙ sym (length-take-le n s room))
+    (λ i l. let k : i < n = rw (tab_length n (nth s)) at l in tab_at n (nth s) i 0 k ∙ sym (get_or-take n s i 0 k))
+
+-- n times the same
+pub tab_replicate : (n x : ℕ) → tab n (λ _. x) ≡ replicate n x
+unfolding tab_from
+tab_replicate n x = go 0 n
+  where
+    go : (a n : ℕ) → tab_from a n (λ _. x) ≡ replicate n x
+    go a zero = refl
+    go a (suc n) = ap (λ s. x ∷ s) (go (suc a) n)
+
+-- ---- stores, and one more at the end
+-- a run of stores leaves what stands beside it
+pub sets_other : (vs l : List ℕ) (i k : ℕ) → (k < i) ⊎ (i + length vs ≤ k) → nth (sets l i vs) k ≡ nth l k
+sets_other [] l i k h = refl
+sets_other (v ∷ vs) l i k h =
+    sets_other vs (set l i v) (suc i) k (⊎_elim (λ a. inl (omega arith)) (λ a. inr (omega arith)) h)
+    ∙ get_or-set_other l i k v 0 (λ e. ⊎_elim (λ a. omega arith) (λ a. omega arith) h)
+
+-- and puts its own
+pub sets_same : (vs l : List ℕ) (i j : ℕ) → j < length vs → i + length vs ≤ length l → nth (sets l i vs) (i + j) ≡ nth vs j
+sets_same [] l i j h fits = absurd (omega arith)
+sets_same (v ∷ vs) l i zero h fits =
+    ap (nth (sets (set l i v) (suc i) vs)) (add-zero i) ∙ sets_other vs (set l i v) (suc i) i (inl (omega arith)) ∙ get_or-set_same l i v 0 (omega arith)
+sets_same (v ∷ vs) l i (suc j) h fits =
+    ap (nth (sets (set l i v) (suc i) vs)) (omega arith)
+    ∙ sets_same vs (set l i v) (suc i) j (omega arith) (omega (arith, length-set l i v))
+
 -- a list by its rule, changed at one place
 pub tab_set : (n i v : ℕ) (g h : ℕ → ℕ) → i < n → h i ≡ v → ((k : ℕ) → k ≢ i → h k ≡ g k) → set (tab n g) i v ≡ tab n h
 tab_set n i v g h l here else-where =
@@ -172,3 +218,15 @@ tab_set n i v g h l here else-where =
           | yes e ↦ ap (nth (set (tab n g) i v)) e ∙ get_or-set_same (tab n g) i v 0 (omega (arith, tab_length n g)) ∙ sym here ∙ ap h (sym e) ∙ sym (tab_at n h k 0 k<n)
           | no x ↦ get_or-set_other (tab n g) i k v 0 x ∙ tab_at n g k 0 k<n ∙ sym (else-where k x) ∙ sym (tab_at n h k 0 k<n)
         ]
+
+-- one more at the end of a list
+module _ {A : Type 0} (d a : A) where
+  pub more_last : (s : List A) → get_or (s ++ (a ∷ [])) (length s) d ≡ a
+  more_last [] = refl
+  more_last (x ∷ s) = more_last s
+
+  pub more_other : (s : List A) (k : ℕ) → k ≢ length s → get_or (s ++ (a ∷ [])) k d ≡ get_or s k d
+  more_other [] zero x = absurd (x refl)
+  more_other [] (suc k) x = refl
+  more_other (y ∷ s) zero x = refl
+  more_other (y ∷ s) (suc k) x = more_other s k (λ e. x (ap suc e))

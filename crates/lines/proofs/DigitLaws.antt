@@ -12,7 +12,7 @@ unfolding digits
 digits_length [] = refl
 digits_length (b ∷ f) = omega (arith, digits_length f)
 
-digits_append : (f g : List ℕ) → digits (f ++ g) ≡ digits f ++ digits g
+pub digits_append : (f g : List ℕ) → digits (f ++ g) ≡ digits f ++ digits g
 unfolding digits
 digits_append [] g = refl
 digits_append (b ∷ f) g = rw (digits_append f g)

@@ -1,13 +1,15 @@
--- Ranges of bytes, and the bytes that are no kind.
+-- Ranges of bytes, the bytes that are no kind, and the longest frame.
 -- Assumes nothing.
 use Rattle.std.proofs.Common.{ℕ, zero, suc, ◌-◌, ◌≡◌, ◌≤◌, ◌<◌, Bool, true, false, cond, ◌&&◌, ◌||◌, refl, ap, arith, nat_le}
 use Rattle.std.specs.Bool.{then_some}
 use Rattle.std.specs.Option.{is_some, unwrap_or}
+use lib.Dec.{leb, leb→le}
 use borrow.Author.Tests.{le-leb, lt-leb, ne_eqb}
+use Rattle.laws.proofs.TestLaws.{all_at}
 use Rattle.tasks.specs.Refusal.{within}
 use Rattle.lines.specs.declared.Kind.{Kind}
 use Rattle.lines.specs.declared.Kind.TheVariants.{Cores, Task, Rates, Limit, Verdict, Slot, End}
-use Rattle.lines.specs.Frame.{sort_of}
+use Rattle.lines.specs.Frame.{length_of_kind, sort_of}
 use Rattle.lines.specs.Lines.{is_digit, digit_of}
 use Rattle.lines.specs.Refusal.{is_kind}
 use Rattle.lines.specs.Told.{code_of}
@@ -65,3 +67,7 @@ digit_or_0 c = go (within 48 57 c) (within 65 70 c)
 pub told_not : (b : Bool) (x : ℕ) → is_some (then_some b x) ≡ false → b ≡ false
 told_not true x e = e
 told_not false x e = refl
+
+-- no frame is longer than 10 bytes
+pub length_most : (kind : ℕ) → kind < 8 → length_of_kind kind ≤ 10
+length_most kind l = leb→le _ _ (all_at 8 (λ k. leb (length_of_kind k) 10) tt kind l)

@@ -1,6 +1,7 @@
 -- A text cut at line feeds; pairs of digits, and the bytes they stand for.
 -- Assumes nothing.
 use Prim.Native.Nat.{ℕ, zero, suc, ◌+◌, ◌*◌, ◌/◌, ◌%◌, ◌≤◌, ◌<◌}
+use native.Mathlib.Decide.{ℕ_discrete}
 use native.Mathlib.Omega.{arith}
 use mathlib.Core.Path.{◌≡◌, refl, sym, ap, ◌∙◌}
 use mathlib.Core.Logic.{◌≢◌, ⊎_elim}
@@ -31,6 +32,13 @@ first_line (b ∷ []) (suc zero) some fits none feed = rw (ne_eqb b 10 (none 0 (
 first_line (b ∷ []) (suc (suc n)) some fits none feed = absurd (omega arith)
 first_line (b ∷ c ∷ s) (suc n) some fits none feed =
     rw (ne_eqb b 10 (none 0 (omega arith)), first_line (c ∷ s) n (omega arith) (omega arith) (λ k l. none (suc k) (omega arith)) (λ l. feed (omega arith)), leb-suc-suc (suc n) (length (c ∷ s)))
+
+-- no line feed before a place, and none there
+pub none_more : (text : List ℕ) (from i : ℕ) → ((k : ℕ) → from ≤ k → k < i → nth text k ≢ 10) → nth text i ≢ 10 → (k : ℕ) → from ≤ k → k < i + 1 → nth text k ≢ 10
+none_more text from i none x k a b = elim (ℕ_discrete k i) [
+  | yes e ↦ (λ q. x (ap (nth text) (sym e) ∙ q))
+  | no y ↦ none k a (omega arith)
+]
 
 -- the line of bytes that end in a line feed, and of bytes that do not
 pub line_fed : (line : List ℕ) (n : ℕ) → length line ≡ n + 1 → nth line n ≡ 10 → line_in line ≡ record { text = take n line; ended = true }
@@ -131,6 +139,14 @@ all_pairs (a ∷ b ∷ s) e d = rw (d 0 (omega arith), d 1 (omega arith)) (all_p
 -- each of the first n bytes is a digit
 abbrev pub DigitsBelow : ℕ → List ℕ → Type 0
 DigitsBelow n s = (k : ℕ) → k < n → is_digit (nth s k) ≡ true
+
+-- digits before a place, and one there
+pub digits_more : (text : List ℕ) (from i : ℕ) → ((k : ℕ) → from ≤ k → k < i → is_digit (nth text k) ≡ true) → is_digit (nth text i) ≡ true
+    → (k : ℕ) → from ≤ k → k < i + 1 → is_digit (nth text k) ≡ true
+digits_more text from i d e k a b = elim (ℕ_discrete k i) [
+  | yes q ↦ ap (λ j. is_digit (nth text j)) q ∙ e
+  | no y ↦ d k a (omega arith)
+]
 
 -- the digits of a pair
 pub pair_at : (s : List ℕ) (n k : ℕ) → k < n

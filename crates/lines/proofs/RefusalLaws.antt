@@ -1,15 +1,26 @@
 -- The refusals of a line.
 -- Assumes nothing.
-use Rattle.std.proofs.Common.{ℕ, ◌≡◌, ◌≢◌, ◌/◌, ◌<◌, Bool, true, false, ◌&&◌, List, [], ◌∷◌, length, nat_eq, refl, ap, sym, arith, Option, None, Some, Ok, Err}
+use Rattle.std.proofs.Common.{ℕ, ◌≡◌, ◌≢◌, ◌/◌, ◌≤◌, ◌<◌, Bool, true, false, ◌&&◌, List, [], ◌∷◌, length, nat_eq, refl, ap, sym, ◌∙◌, arith, Option, None, Some, Ok, Err}
 use Rattle.std.specs.Option.{ok_or}
-use mathlib.Core.Bool.{false≢true}
+use mathlib.Core.Logic.{⊎_elim}
+use mathlib.Core.Bool.{true≢false, false≢true}
 use borrow.Author.Tests.{eqb-true, eq-eqb, ne_eqb}
 use Rattle.laws.specs.Lists.{nth}
+use Rattle.laws.proofs.SumLaws.{lt_or_ge}
 use Rattle.tasks.specs.Refusal.{unless}
 use Rattle.lines.specs.Frame.{length_of_kind, sort_of}
 use Rattle.lines.specs.Lines.{pairs, bytes_of}
 use Rattle.lines.specs.Refusal.{is_kind, in_problem, length_refusal, frame_refusal, line_refusal}
+use Rattle.lines.proofs.FrameLaws.{above}
 use Rattle.lines.proofs.LineLaws.{bytes_length}
+
+-- a kind that there is
+pub kind_low : (kind : ℕ) → is_kind (sort_of kind) ≡ true → kind < 8
+unfolding sort_of
+kind_low kind e = ⊎_elim (λ l. l) (λ h. let z : true ≡ false = sym e ∙ high h in absurd (true≢false z)) (lt_or_ge kind 8)
+  where
+    high : 8 ≤ kind → is_kind (sort_of kind) ≡ false
+    high h = rw (above 1 4 kind (omega arith), ne_eqb kind 7 (λ q. omega arith), above 5 6 kind (omega arith))
 
 -- ---- a frame of so many bytes
 module _ (kind count : ℕ) where

@@ -1,9 +1,9 @@
 -- What each answer of the code is by the definitions: tests of ranges and rates, refusals and lengths; and what the answer of a list says.
 -- Assumes nothing.
 use Prim.Native.Nat.{ℕ, zero, suc, ◌+◌, ◌≤◌, ◌<◌}
-use mathlib.Core.Path.{◌≡◌, refl, sym, ap, ◌∙◌}
+use mathlib.Core.Path.{◌≡◌, refl, sym, ap, ◌∙◌, subst}
 use mathlib.Core.Logic.{◌≢◌}
-use mathlib.Core.Bool.{Bool, true, false, cond, not}
+use mathlib.Core.Bool.{Bool, true, false, cond, not, ◌&&◌}
 use mathlib.Core.List.{List}
 use Rattle.std.specs.Prelude.{None, Some, Result, Ok, Err}
 use Rattle.std.specs.Option.{ok_or}
@@ -25,10 +25,20 @@ use Rattle.tasks.specs.declared.Refusal.TheVariants.{Length}
 use Rattle.tasks.specs.Task.{task}
 use Rattle.tasks.specs.Refusal.{most_rate, period_at, within, unless, or_next, rates_fit, task_refusal, list_refusal, table_length, refusal, IsSound, fits_if, length_of, sound, refused, tested_if, tested, Periods}
 use Rattle.tasks.specs.Told.{number_of, tested_as}
-use Rattle.tasks.proofs.SoundLaws.{rates_at, list_range}
+use Rattle.tasks.proofs.SoundLaws.{rates_at, within_is, list_range}
 use Rattle.tasks.proofs.RefusalLaws.{some_number}
 
 -- ---- ranges and rates
+-- a number below its range
+pub within_low : (low high x : ℕ) → x < low → false ≡ within low high x
+unfolding within
+within_low low high x l = sym (ap (λ b. b && leb x high) (lt-leb low x l))
+
+-- one not below it
+pub within_high : (low high x : ℕ) → low ≤ x → leb x high ≡ within low high x
+unfolding within
+within_high low high x l = sym (ap (λ b. b && leb x high) (le-leb low x l))
+
 -- the most that a rate may be on a core of the board
 pub most_within : (j m most : ℕ) → j < m → most ≡ 15 → most ≡ most_rate m j
 most_within j m most l e = e ∙ sym (ap (λ b. cond b 15 0) (lt-ltb j m l))
@@ -117,6 +127,10 @@ length_over ts i h all le e l =
     ap (λ b. fits_if b (table_length ts)) (sym (lt-leb (table_length ts) 1024 (omega arith)))
 
 -- ---- soundness
+-- a number that passed the test of its range
+pub within_passed : (r : Bool) (low high x : ℕ) → r ≡ within low high x → not r ≡ false → (low ≤ x) × (x ≤ high)
+within_passed r low high x e t = within_is low high x (subst T (sym (sym e ∙ not-false r t)) tt)
+
 -- the periods of tasks that are not refused
 pub passed_periods : (m : ℕ) (ts : List Task) → 0 ≡ list_refusal m ts → Periods ts
 passed_periods m ts e k l = let t = list_range m ts (sym e) (suc k) (omega arith) l in (t.period_pos, t.period_le)
