@@ -97,7 +97,8 @@ impl Grid {
         ensures { result ≡ floor_on self.now table.now first core }
     {
         let mut most: usize = 0;
-        for j in 0..core {
+        // The bound says nothing new: with it the compiler knows that there are three turns at most.
+        for j in 0..core.min(3) {
             most = most.max(self.twin_rank(table, first, core, j));
         }
         most

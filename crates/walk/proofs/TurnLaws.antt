@@ -17,7 +17,7 @@ use Rattle.laws.specs.Lists.{nth}
 use lib.Count.{trailing_of_zero}
 use Rattle.sets.specs.Sets.{has, of_core, from_rank, lowest, without, Alone}
 use Rattle.sets.proofs.SetLaws.{none_has, of_core_has, of_core_alone, of_core_lt, without_has, without_alone, without_lt, lowest_in, lowest_first, from_has, from_alone, from_lt}
-use Rattle.grid.proofs.ReadLaws.{at_slot, sets_none, due_starves, due_still, none_starved, due_only_last}
+use Rattle.grid.proofs.ReadLaws.{sets_none, due_starves, due_still, none_starved, due_only_last}
 use Rattle.grid.specs.declared.Grid.{Grid}
 use Rattle.grid.specs.Grid.{counter_on, rate_on, tasks_on, cores_on, slots_on, cells_on, sets_on, bars_idle, floor_on, all_settled_on, first_due_on, due_on, OnGrid}
 use Rattle.walk.specs.declared.Walker.{Walker}
@@ -340,20 +340,12 @@ module _ {grid : Grid} {slot core sets : ℕ} (stands : Stands grid slot core se
     within = λ v c n l. ap (λ s. has s v c) es ∙ without_has sets task v c lt l ∙ ap (λ b. not (eqb v task) && b) (stands.within v c n l) ∙ and-false (not (eqb v task));
   }
 
-  -- at the next slot
-  pub stands_slot : slot + 1 < slots_on grid → (l : List ℕ) {sets' : ℕ} → sets' ≡ sets_on grid l (slot + 1) → Stands grid (slot + 1) 0 sets'
-  stands_slot h l es = record {
-    fits = at_slot stands.fits h;
-    core_in = omega (arith, stands.core_in);
-    within = λ v c n _. ap (λ s. has s v c) es ∙ sets_none grid l (slot + 1) v c n;
-  }
-
--- at the first cell
-pub stands_start : (grid : Grid) (l : List ℕ) {sets : ℕ} → OnGrid grid 0 → 0 < cores_on grid → sets ≡ sets_on grid l 0 → Stands grid 0 0 sets
-stands_start grid l fits some es = record {
+-- at the first cell of a slot
+pub stands_start : (grid : Grid) (slot : ℕ) (l : List ℕ) {sets : ℕ} → OnGrid grid slot → 0 < cores_on grid → sets ≡ sets_on grid l slot → Stands grid slot 0 sets
+stands_start grid slot l fits some es = record {
   fits = fits;
   core_in = some;
-  within = λ v c n _. ap (λ s. has s v c) es ∙ sets_none grid l 0 v c n;
+  within = λ v c n _. ap (λ s. has s v c) es ∙ sets_none grid l slot v c n;
 }
 
 -- ---- after a core
@@ -394,12 +386,12 @@ module _ {grid : Grid} {slot core sets : ℕ} {t l : List ℕ} {u : ℕ} (stands
       }
 
       -- there is one more slot
-      pub next_slots : slot + 1 < slots_on grid → {sets' : ℕ} → sets' ≡ sets_on grid l (slot + 1) → {e : End} {t' l' : List ℕ} {u' : ℕ}
-          → Ran grid (slot + 1) 0 sets' t l u e t' l' u' → RanAfter grid slot core sets t l u e t' l' u'
+      pub next_slots : slot + 1 < slots_on grid → {e : End} {t' l' : List ℕ} {u' : ℕ}
+          → Ran grid (slot + 1) 0 (sets_on grid l (slot + 1)) t l u e t' l' u' → RanAfter grid slot core sets t l u e t' l' u'
       unfolding after_cell
-      next_slots s {sets'} es ran = record {
+      next_slots s ran = record {
         leaves = leaves_same
-            ((λ i. walk_on (sym (slot_left stands h s) i) grid full (sym (slot_first stands h) i) (slot + 1) 0 (es i) t l u)
+            ((λ i. walk_on (sym (slot_left stands h s) i) grid full (sym (slot_first stands h) i) (slot + 1) 0 (sets_on grid l (slot + 1)) t l u)
             ∙ sym (rw (le-ltb (core + 1) (cores_on grid) h, none_starved grid l slot z, lt-ltb (slot + 1) (slots_on grid) s)))
             ran.leaves;
       }

@@ -4,7 +4,7 @@
 // The tries are counted up to the largest number in place of the limit.
 #![tactic(auto)]
 
-ghost use Rattle.std.specs.Prelude.{◌≡◌, ◌-◌, ◌≤◌, ◌<◌, set};
+ghost use Rattle.std.specs.Prelude.{◌≡◌, ◌+◌, ◌-◌, ◌≤◌, ◌<◌, set};
 ghost use Rattle.grid.specs.Grid.{sets_on, cores_on, OnGrid};
 ghost use Rattle.walk.specs.Machine.{Stands, SameLoans, Ran, RanAfter};
 ghost use Rattle.laws.specs.Lists.{nth};
@@ -114,10 +114,22 @@ impl Walker<'_> {
             return End::NoneFound;
         }
         if slot + 1 < usize::from(self.grid.slots) {
-            let sets = self.grid.enter(self.left, slot + 1);
-            return self.cell(slot + 1, 0, sets);
+            return self.next_slot(slot);
         }
         End::Found
+    }
+
+    // The next slot, from its first core on. Out of line, so that `finish_slot`, which mostly stays in the slot, saves no registers.
+    #[inline(never)]
+    #[cycle(cell_finish_slot)]
+    fn next_slot(&mut self, slot: usize) -> End
+        requires { OnGrid self.old.grid.now (slot + 1) × (0 < cores_on self.old.grid.now) }
+        ensures same { SameLoans self.old self.new }
+        ensures ran { Ran self.old.grid.now (slot + 1) 0 (sets_on self.old.grid.now self.old.left.now (slot + 1)) self.old.table.now self.old.left.now self.old.tries
+            result self.new.table.now self.new.left.now self.new.tries }
+    {
+        let sets = self.grid.enter(self.left, slot + 1);
+        self.cell(slot + 1, 0, sets)
     }
 }
 

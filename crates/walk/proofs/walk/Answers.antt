@@ -4,4 +4,4 @@ use Rattle.walk.proofs.TurnLaws.{stands_start}
 use Rattle.walk.proofs.walk.Goals as goal
 
 pub cell-end-requires : goal.cell-end-requires
-cell-end-requires c = stands_start _ _ c.requires.0 c.requires.1 c.enter-sets.ensures
+cell-end-requires c = stands_start _ _ _ c.requires.0 c.requires.1 c.enter-sets.ensures

@@ -1,14 +1,14 @@
--- `Walker::cell` and `Walker::finish_slot` meet their contracts, by one proof: each goal is a law of the turn that it belongs to.
+-- `Walker::cell`, `Walker::finish_slot` and `Walker::next_slot` meet their contracts, by one proof: each goal is a law of the turn that it belongs to.
 -- Assumes nothing.
 use Prim.Native.Nat.{◌*◌}
 use native.Mathlib.Omega.{arith}
 use mathlib.Core.Path.{refl, sym, ap, ◌∙◌}
 use Rattle.std.proofs.option.Match.{None-if_not_some}
-use Rattle.grid.proofs.ReadLaws.{starves_tells}
+use Rattle.grid.proofs.ReadLaws.{at_slot, starves_tells}
 use Rattle.walk.specs.Machine.{cells_left}
 use mathlib.Core.Logic.{⊎_elim}
 use Rattle.walk.proofs.GiveBackLaws.{found_apart, stopped_apart}
-use Rattle.walk.proofs.TurnLaws.{begins, task_in, task_few, rises, passes, backs, ends, stops, idle_barred, idle_stops, idle_starves, idles, stands_without, stands_slot, goes_on, slot_left, starved, founds, next_slots, stands_same, ran_after_same, loans_on, some_there}
+use Rattle.walk.proofs.TurnLaws.{begins, task_in, task_few, rises, passes, backs, ends, stops, idle_barred, idle_stops, idle_starves, idles, stands_without, stands_start, goes_on, slot_left, starved, founds, next_slots, stands_same, ran_after_same, loans_on, some_there}
 use Rattle.walk.proofs.Walker.+cell_finish_slot.Goals as goal
 
 pub cell-loop-rest-init : goal.cell-loop-rest-init
@@ -111,18 +111,21 @@ finish_slot-returns-then-is_some-clause-ran t c =
     let s = some_there _ (sym c.is_some.ensures ∙ c.if-is_some.true) in
     starved c.requires (omega (arith, c.from.ensures, c.if-core-from.false)) (sym c.first_due.ensures ∙ s.1)
 
-pub finish_slot-cell-requires-then-slot-from : goal.finish_slot-cell-requires-then-slot-from
-finish_slot-cell-requires-then-slot-from t c = (
+pub finish_slot-next_slot-requires : goal.finish_slot-next_slot-requires
+finish_slot-next_slot-requires t c = (
   omega (arith, slot_left c.requires (omega (arith, c.from.ensures, c.if-core-from.false)) (omega (arith, c.from-2.ensures, c.if-slot-from.true))),
-  stands_slot c.requires (omega (arith, c.from-2.ensures, c.if-slot-from.true)) _ c.enter-sets.ensures,
+  (at_slot c.requires.fits (omega (arith, c.from-2.ensures, c.if-slot-from.true)), omega (arith, c.requires.core_in)),
 )
 
 pub finish_slot-returns-then-slot-from-clause-ran : goal.finish_slot-returns-then-slot-from-clause-ran
 finish_slot-returns-then-slot-from-clause-ran t c =
     next_slots c.requires (omega (arith, c.from.ensures, c.if-core-from.false))
-    (sym c.first_due.ensures ∙ None-if_not_some _ (sym c.is_some.ensures ∙ c.if-is_some.false)) (omega (arith, c.from-2.ensures, c.if-slot-from.true)) c.enter-sets.ensures c.cell-then-slot-from.ensures.ran
+    (sym c.first_due.ensures ∙ None-if_not_some _ (sym c.is_some.ensures ∙ c.if-is_some.false)) (omega (arith, c.from-2.ensures, c.if-slot-from.true)) c.next_slot.ensures.ran
 
 pub finish_slot-returns-clause-ran : goal.finish_slot-returns-clause-ran
 finish_slot-returns-clause-ran t c =
     founds c.requires (omega (arith, c.from.ensures, c.if-core-from.false))
     (sym c.first_due.ensures ∙ None-if_not_some _ (sym c.is_some.ensures ∙ c.if-is_some.false)) (omega (arith, c.from-2.ensures, c.if-slot-from.false))
+
+pub next_slot-cell-requires : goal.next_slot-cell-requires
+next_slot-cell-requires t c = (omega arith, stands_start _ _ _ c.requires.0 c.requires.1 c.enter-sets.ensures)

@@ -1,4 +1,5 @@
--- The cells left fall: twice their number for `cell`, this one among them; one more than twice for `finish_slot`. The loop's invariant is where
+-- The cells left fall: thrice their number for `cell`, this one among them; two more than thrice for `finish_slot`, and one more than
+-- for the `cell` that it calls for `next_slot`. The loop's invariant is where
 -- a turn stands, and its measure what is left of the tasks above the lowest. Assumes nothing.
 use Prim.Native.Nat.{suc, ◌+◌, ◌*◌, ◌-◌}
 use Rattle.sets.specs.Sets.{lowest}
@@ -7,10 +8,13 @@ use Rattle.walk.proofs.TurnLaws.{Turn}
 use Rattle.walk.proofs.Walker.+cell_finish_slot.Given as goal
 
 abbrev pub decreases-cell : goal.decreases-cell
-decreases-cell l = 2 * suc (cells_left l.self.now.grid.now l.slot l.core)
+decreases-cell l = 3 * suc (cells_left l.self.now.grid.now l.slot l.core)
 
 abbrev pub decreases-finish_slot : goal.decreases-finish_slot
-decreases-finish_slot l = 2 * cells_left l.self.now.grid.now l.slot l.core + 1
+decreases-finish_slot l = 3 * cells_left l.self.now.grid.now l.slot l.core + 2
+
+abbrev pub decreases-next_slot : goal.decreases-next_slot
+decreases-next_slot l = 3 * suc (cells_left l.self.now.grid.now (l.slot + 1) 0) + 1
 
 abbrev pub invariant-cell-loop-rest : goal.invariant-cell-loop-rest
 invariant-cell-loop-rest l =
