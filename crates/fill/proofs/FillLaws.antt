@@ -10,7 +10,7 @@ use native.Mathlib.Decide.{ℕ_discrete}
 use native.Mathlib.Numerals.{add-one}
 use native.Mathlib.Nat.{mul-le-mul_left, mul-le-mul, suc-mul, zero-add}
 use lib.ListN.{length, set}
-use borrow.Author.Tests.{eq-eqb, ne_eqb}
+use borrow.Author.Tests.{lt-ltb, le-ltb, eq-eqb, ne_eqb}
 use Rattle.laws.specs.Sum.{gate}
 use Rattle.laws.specs.Lists.{nth, filled}
 use Rattle.laws.proofs.ListLaws.{seek_is, seek_none, filled_length, filled_at, filled_before, filled_behind, filled_next}
@@ -19,7 +19,7 @@ use Rattle.windows.specs.declared.InSlot.{InSlot}
 use Rattle.windows.specs.Answer.{Fit, in_slot}
 use Rattle.tasks.proofs.WindowLaws.{pos_T, job_lt}
 use Rattle.windows.proofs.AnswerLaws.{told_opens, told_job, told_last}
-use Rattle.fill.specs.Grid.{entry_for, in_rows, end_mark}
+use Rattle.fill.specs.Grid.{entry_for, in_rows, entry_in, entry_at, end_mark}
 
 -- ---- rows stored one after the other
 module _ (w n : ℕ) (g : ℕ → ℕ → ℕ) (s : List ℕ) where
@@ -90,6 +90,18 @@ module _ (L t : ℕ) (τ : Task) (r : InSlot) (e : r ≡ in_slot L τ t) where
   pub entry_closed : (v : ℕ) → r.opens ≡ false → 32768 ≡ entry_for L τ (suc v) t
   unfolding entry_for
   entry_closed v o = rw (sym (told_opens L t τ r e) ∙ o)
+
+-- ---- what stands at place v of slot t of L
+module _ (ts : List Task) (L t v : ℕ) where
+  -- of a task of the list its entry
+  pub entry_there : v < length ts → entry_in ts L t v ≡ entry_at ts L t v
+  unfolding entry_at
+  entry_there l = rw (lt-ltb v (length ts) l) refl
+
+  -- behind the list 0
+  pub entry_behind : length ts ≤ v → 0 ≡ entry_at ts L t v
+  unfolding entry_at
+  entry_behind l = rw (le-ltb v (length ts) l) refl
 
 -- ---- the slots in which jobs end
 module _ (entries : List ℕ) (n t : ℕ) where

@@ -34,8 +34,8 @@ use Rattle.grid.specs.declared.Grid.{Grid}
 use Rattle.grid.specs.Grid.{cores_on, OnGrid}
 use Rattle.grid.specs.GridFor.{Small, entry_of, is_quick, GridFor}
 use Rattle.grid.proofs.GridForLaws.{counter_le}
-use Rattle.fill.specs.Grid.{entry_for, entry_in, entries_of, end_mark, rate_in, even_pair, even_row, sets_by, quick_bit, rated_bit, rated_row, cores_twin, twins_of, empty_grid, grid_of}
-use Rattle.fill.proofs.FillLaws.{rows_at}
+use Rattle.fill.specs.Grid.{entry_for, entry_at, entries_of, end_mark, rate_in, even_pair, even_row, sets_by, quick_bit, rated_bit, rated_row, cores_twin, twins_of, empty_grid, grid_of}
+use Rattle.fill.proofs.FillLaws.{rows_at, entry_there}
 use Rattle.fill.proofs.RateLaws.{quick_few, bit_le, rated_few}
 
 -- ---- the list's instance
@@ -155,8 +155,8 @@ module _ {m : ℕ} {ts : List Task} (s : SoundList m ts) where
       slots = refl;
       cores = refl;
       tasks = refl;
-      entries = λ t v lt lv. rows_at 16 (length ts) (entry_in ts (table_length ts)) (replicate 16384 0) (table_length ts) t v lt lv s.few_tasks
-          (omega (arith, length-replicate {A = ℕ} 16384 0, s.few_slots));
+      entries = λ t v lt lv. rows_at 16 16 (entry_at ts (table_length ts)) (replicate 16384 0) (table_length ts) t v lt (omega (arith, s.few_tasks)) (omega arith)
+          (omega (arith, length-replicate {A = ℕ} 16384 0, s.few_slots)) ∙ sym (entry_there ts (table_length ts) t v lv);
       ends = λ t v lt lv. ends_before (entries_of ts (table_length ts) (replicate 16384 0)) (length ts) (table_length ts) t v s.few_slots lt;
       rates = λ v j lv lj. rows_at 4 4 (rate_in ts) (replicate 64 0) (length ts) v j lv (omega (arith, s.few_cores)) (omega arith)
           (omega (arith, length-replicate {A = ℕ} 64 0, s.few_tasks));

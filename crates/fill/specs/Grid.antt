@@ -29,9 +29,13 @@ in_rows w n g (suc t) s = filled (in_rows w n g t s) (t * w) n (g t)
 abbrev pub entry_in : List Task → ℕ → ℕ → ℕ → ℕ
 entry_in ts L t v = entry_for L (task ts (suc v)) (suc v) t
 
+-- what stands at place v of slot t: the entry of the task there, 0 where the list has none
+unfoldable pub entry_at : List Task → ℕ → ℕ → ℕ → ℕ
+entry_at ts L t v = cond (ltb v (length ts)) (entry_in ts L t v) 0
+
 -- s with the entries of L slots, sixteen places a slot
 abbrev pub entries_of : List Task → ℕ → List ℕ → List ℕ
-entries_of ts L = in_rows 16 (length ts) (entry_in ts L) L
+entries_of ts L = in_rows 16 16 (entry_at ts L) L
 
 -- the first task whose job has its highest-numbered slot in this slot, by its entry; n if there is none
 unfoldable pub end_mark : List ℕ → ℕ → ℕ → ℕ

@@ -6,7 +6,7 @@ ghost use Rattle.laws.specs.Lists.{filled};
 ghost use Rattle.tasks.specs.Task.{task};
 ghost use Rattle.windows.specs.Answer.{Fit};
 ghost use Rattle.grid.specs.GridFor.{is_quick as quick_engine};
-ghost use Rattle.fill.specs.Grid.{entry_for, entries_of, end_mark, rates_of, even_pair, even_row, quick_bit, evens_of, rated_bit, rated_row, rated_of, cores_twin, twins_of, grid_of};
+ghost use Rattle.fill.specs.Grid.{entry_for, entry_at, entries_of, end_mark, rates_of, even_pair, even_row, quick_bit, evens_of, rated_bit, rated_row, rated_of, cores_twin, twins_of, grid_of};
 
 use grid::Grid;
 use tasks::{Rates, Slots, Task};
@@ -35,15 +35,28 @@ fn entry(len: Slots, t: Task, v: u16, slot: Slots) -> u16
     }
 }
 
-// The entries, slot by slot. That a list has at most 16 tasks is asked of the slice, here and below, as `fill_grid` asks it.
+// The entry at place v of a slot: that of the task there, 0 where the list has none. That a list has at most 16 tasks is asked of
+// the slice, here and below, as `fill_grid` asks it.
+#[tactic(auto, using(crate::proofs::FillLaws::entry_there, crate::proofs::FillLaws::entry_behind))]
+fn entry_at(tasks: &[Task], len: Slots, slot: u16, v: u16) -> u16
+    requires { (length tasks.now ≤ 16) × ((k : ℕ) → k < length tasks.now → Fit len.0 (task tasks.now (suc k))) × (slot < len.0) × (v < 16) }
+    ensures { result ≡ entry_at tasks.now len.0 slot v }
+{
+    match tasks.get(usize::from(v)) {
+        Some(task) => entry(len, *task, v, Slots(slot)),
+        None => 0,
+    }
+}
+
+// The entries, slot by slot, sixteen places each.
 #[tactic(auto, using(crate::proofs::FillLaws::rows_none, crate::proofs::FillLaws::rows_next, laws::proofs::ListLaws::filled_none, laws::proofs::ListLaws::filled_next))]
 fn fill_entries(entries: &mut [u16; 16384], tasks: &[Task], len: Slots)
     requires { (length tasks.now ≤ 16) × (len.0 ≤ 1024) × ((k : ℕ) → k < length tasks.now → Fit len.0 (task tasks.now (suc k))) }
     ensures { entries.new ≡ entries_of tasks.now len.0 entries.old }
 {
     for slot in 0..len.0 {
-        for (v, task) in tasks.iter().enumerate() {
-            entries[usize::from(slot) * 16 + v] = entry(len, *task, v as u16, Slots(slot));
+        for v in 0..16 {
+            entries[usize::from(slot * 16 + v)] = entry_at(tasks, len, slot, v);
         }
     }
 }
