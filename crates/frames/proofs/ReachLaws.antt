@@ -21,7 +21,7 @@ use Rattle.frames.specs.Read.{Reading, said, start, refused, problem, may_follow
 use Rattle.frames.specs.Told.{HasRead, code_before, WasFrame}
 
 -- an 03 in its place finds room for its task
-number_room : (last n : ℕ) (f : List ℕ) → in_place last n f ≡ true → nth f 0 ≡ 3 → n < 16
+pub number_room : (last n : ℕ) (f : List ℕ) → in_place last n f ≡ true → nth f 0 ≡ 3 → n < 16
 unfolding in_place right_number
 number_room last n f e k =
     let right : nat_eq (nth f 1) (suc n) && nat_le (nth f 1) 16 ≡ true = rw k at (both_pass (may_follow last (nth f 0)) _ e).1 in
