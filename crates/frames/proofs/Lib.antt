@@ -1,5 +1,6 @@
 pub mod Cases
 pub mod LimitLaws
+mod ListLaws
 mod PlaceLaws
 pub mod ProblemLaws
 mod ReachLaws

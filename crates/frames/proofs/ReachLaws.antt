@@ -18,7 +18,7 @@ use Rattle.lines.proofs.LineLaws.{line_cut}
 use Rattle.lines.proofs.RefusalLaws.{both_pass}
 use Rattle.frames.specs.declared.Problem.{Problem}
 use Rattle.frames.specs.Read.{Reading, said, start, refused, problem, may_follow, right_number, in_place, taken_frame, place_refusal, or_read, read_lines}
-use Rattle.frames.specs.Told.{HasRead, code_before, WasFrame}
+use Rattle.frames.specs.Told.{listed, HasRead, code_before, WasFrame}
 
 -- an 03 in its place finds room for its task
 pub number_room : (last n : ℕ) (f : List ℕ) → in_place last n f ≡ true → nth f 0 ≡ 3 → n < 16
@@ -106,7 +106,7 @@ module _ (text : List ℕ) (p : Problem) (last : Option Frame) (rest line behind
   line_refused zero q x = absurd (x refl)
   line_refused (suc k) q x = sym (next_line ∙ rw (← q))
 
-  module _ (passed : 0 ≡ line_refusal (line_in line)) (count : ℕ) (all : count ≡ length p.tasks.items) where
+  module _ (passed : 0 ≡ line_refusal (line_in line)) (count : ℕ) (all : count ≡ length (listed p.tasks)) where
     place_is : in_place (code_before last) count line_bytes ≡ in_place (nth R.state.last 0) (length R.state.tasks) line_bytes
     place_is = ap₂ (λ k n. in_place k n line_bytes) (code_was last R.state.last R.was) (all ∙ ap length R.held.tasks)
 
@@ -144,6 +144,6 @@ module _ (text : List ℕ) (p : Problem) (last : Option Frame) (rest : List ℕ)
   no_end e = sym (no_line ∙ rw (← e))
 
   -- else the problem
-  pub read_all : true ≡ nat_eq (code_before last) 7 → problem p.m p.tasks.items p.engine p.limit ≡ read_lines start (lines text)
+  pub read_all : true ≡ nat_eq (code_before last) 7 → problem p.m (listed p.tasks) p.engine p.limit ≡ read_lines start (lines text)
   unfolding unless
   read_all e = rw (R.held.m, R.held.tasks, R.held.engine, R.held.limit) (sym (no_line ∙ rw (← e)))

@@ -2,7 +2,6 @@
 -- Assumes nothing.
 use Rattle.std.proofs.Common.{ℕ, ◌≡◌, ◌≢◌, List, [], ◌∷◌, ◌++◌, refl, sym, ap, ◌∙◌, arith, Option, Some}
 use borrow.Author.Tests.{ne_eqb}
-use Rattle.arrayvec.specs.ArrayVec.{ArrayVec}
 use Rattle.laws.specs.Lists.{nth, tab_from}
 use Rattle.tasks.specs.declared.Task.{Task}
 use Rattle.lines.specs.declared.Kind.{Kind}
@@ -11,8 +10,9 @@ use Rattle.lines.specs.declared.Frame.{Frame}
 use Rattle.lines.specs.Frame.{two, four, ten_bytes}
 use Rattle.lines.specs.Told.{code_of, IsFrame}
 use Rattle.frames.specs.declared.Problem.{Problem}
+use Rattle.frames.specs.declared.task_list.TaskList.{TaskList}
 use Rattle.frames.specs.Read.{Reading, task_of, taken_frame}
-use Rattle.frames.specs.Told.{HasRead, WasFrame}
+use Rattle.frames.specs.Told.{listed, HasRead, WasFrame}
 
 -- a frame that says nothing
 quiet : (k : Kind) → k ≢ kind.Cores → k ≢ kind.Rates → k ≢ kind.Limit → (code_of k ≢ 1) × (code_of k ≢ 3) × (code_of k ≢ 4)
@@ -32,8 +32,8 @@ module _ (p : Problem) (frame : Frame) (s : Reading) (h : HasRead p s) (f : List
       let code : nth f 0 ≡ 1 = sym g.0 ∙ ap code_of k in
       record { m = rw code (ap (λ b. nth b 1) g.1); tasks = rw code h.tasks; engine = rw code h.engine; limit = rw code h.limit }
 
-  pub task_said : (last : Option Frame) (numbers : Frame) (τ : Task) (tasks : ArrayVec Task) → last ≡ Some numbers → WasFrame last s.last → frame.kind ≡ kind.Rates
-      → τ ≡ task_of numbers.bytes frame.bytes → tasks.items ≡ p.tasks.items ++ (τ ∷ [])
+  pub task_said : (last : Option Frame) (numbers : Frame) (τ : Task) (tasks : TaskList) → last ≡ Some numbers → WasFrame last s.last → frame.kind ≡ kind.Rates
+      → τ ≡ task_of numbers.bytes frame.bytes → listed tasks ≡ listed p.tasks ++ (τ ∷ [])
       → HasRead (record { m = p.m; tasks = tasks; engine = p.engine; limit = p.limit }) (taken_frame s f)
   unfolding taken_frame task_of two ten_bytes tab_from
   task_said last numbers τ tasks was w k t more =

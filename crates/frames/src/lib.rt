@@ -6,10 +6,12 @@ ghost use Rattle.lines.specs.Frame.{two, four};
 ghost use Rattle.lines.specs.Lines.{lines};
 ghost use Rattle.lines.specs.Told.{code_of, IsFrame};
 ghost use Rattle.frames.specs.Read.{Reading, start, may_follow, right_number, in_place, task_of, taken_frame, read_lines, read_problem};
-ghost use Rattle.frames.specs.Told.{read_as, HasRead, code_before, WasFrame};
+ghost use Rattle.frames.specs.Told.{listed, read_as, HasRead, code_before, WasFrame};
 
-use arrayvec::ArrayVec;
+mod task_list;
+
 use lines::{Frame, Kind};
+use task_list::TaskList;
 use tasks::{MAX_TASKS, Rates, Refusal, Slots, Task, Work};
 
 // A file over this is refused.
@@ -22,10 +24,10 @@ const ENGINE_LEFT_OUT: u8 = 1;
 const LIMIT_LEFT_OUT: u32 = 1000000;
 
 // What a text holds: the cores, the tasks, the engine and the limit of a problem.
-#[derive(Drop)]
+#[derive(Clone, Copy)]
 pub struct Problem {
     pub m: u8,
-    tasks: ArrayVec<Task, MAX_TASKS>,
+    tasks: TaskList,
     pub engine: u8,
     pub limit: u32,
 }
@@ -105,7 +107,7 @@ impl Problem {
     {
         Problem {
             m: 0,
-            tasks: ArrayVec::new(),
+            tasks: TaskList::new(),
             engine: ENGINE_LEFT_OUT,
             limit: LIMIT_LEFT_OUT,
         }
@@ -113,14 +115,14 @@ impl Problem {
 
     // The tasks.
     pub fn tasks(&self) -> &[Task]
-        ensures { result.now ≡ self.now.tasks.items }
+        ensures { result.now ≡ listed self.now.tasks }
     {
         self.tasks.as_slice()
     }
 
     // What one more frame says behind the last one: an 03 with the 02 before it makes a task.
     fn take_frame(&mut self, last: Option<Frame>, frame: Frame)
-        requires { frame.kind ≡ Kind.Rates → (code_before last ≡ 2) × (length self.old.tasks.items < 16) }
+        requires { frame.kind ≡ Kind.Rates → (code_before last ≡ 2) × (length (listed self.old.tasks) < 16) }
         ensures { (s : Reading) → HasRead self.old s → WasFrame last s.last → (f : List ℕ) → IsFrame frame f → HasRead self.new (taken_frame s f) }
     {
         match frame.kind {

@@ -15,19 +15,19 @@ returns-in_err-frame c =
 pub returns-then-not-in_place : goal.returns-then-not-in_place
 returns-then-not-in_place c =
     let cut = next_cut _ _ _ _ _ _ (λ f a r f' k. search rules) c.in-Some.ensures.steps in
-    place_refused _ _ _ _ _ _ c.loop-line.invariant cut c.in_ok-frame.ensures.refusal _ c.len.ensures.value
+    place_refused _ _ _ _ _ _ c.loop-line.invariant cut c.in_ok-frame.ensures.refusal _ c.len.ensures
     (c.if-not-in_place.ensures _ c.in_ok-frame.ensures.frame)
 
 pub take_frame-requires : goal.take_frame-requires
 take_frame-requires c =
     λ k. let room = rates_room _ _ c.in_ok-frame.frame _ c.in_ok-frame.ensures.frame (c.if-not-in_place.ensures _ c.in_ok-frame.ensures.frame) k in
-    (room.0, rw c.len.ensures.value at room.1)
+    (room.0, rw c.len.ensures at room.1)
 
 pub loop-line-preserved : goal.loop-line-preserved
 loop-line-preserved c =
     let cut = next_cut _ _ _ _ _ _ (λ f a r f' k. search rules) c.in-Some.ensures.steps in
     let i = c.loop-line.invariant in
-    reached_next _ _ _ _ _ _ i cut c.in_ok-frame.ensures.refusal _ c.len.ensures.value c.in_ok-frame.frame _
+    reached_next _ _ _ _ _ _ i cut c.in_ok-frame.ensures.refusal _ c.len.ensures c.in_ok-frame.frame _
     (c.if-not-in_place.ensures _ c.in_ok-frame.ensures.frame) c.in_ok-frame.ensures.frame
     (c.take_frame.ensures i.state i.held i.was _ c.in_ok-frame.ensures.frame)
 

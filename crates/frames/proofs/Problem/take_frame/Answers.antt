@@ -8,7 +8,7 @@ returns-in-Cores c = λ s h w f g. cores_said _ _ s h f g c.in-Cores.is
 
 pub returns-in-Some : goal.returns-in-Some
 returns-in-Some c =
-    λ s h w f g. task_said _ c.args.frame s h f g c.args.last c.in-Some.numbers _ _ c.in-Some.is w c.in-Rates.is c.task_of.ensures c.push.ensures.items
+    λ s h w f g. task_said _ c.args.frame s h f g c.args.last c.in-Some.numbers _ _ c.in-Some.is w c.in-Rates.is c.task_of.ensures c.push.ensures
 
 pub returns-in-Limit : goal.returns-in-Limit
 returns-in-Limit c = λ s h w f g. limit_said _ _ s h f g _ c.in-Limit.is c.limit_of-self.ensures
