@@ -9,7 +9,7 @@
  *
  * Tasks and cores count from 1, slots and jobs from 0: task k is tasks[k - 1]. H is the least common multiple of all
  * periods, m the number of cores. The rules are docs/RULES.md. The bytes of stack that a call takes stand with it, as
- * measured on x86-64 (riscv64 took up to two fifths more); no call takes any other memory. */
+ * measured on x86-64 (riscv64 and aarch64 took at most 256 more, a step at most 80); no call takes any other memory. */
 #ifndef XIPHOMERA_H
 #define XIPHOMERA_H
 
@@ -93,7 +93,7 @@ uint64_t xiphomera_step(xiphomera_player *player, uint32_t tick, uint8_t cells[4
 /* ---- The search and the checker */
 
 /* Searches a table, with engine 0 (plain) or 1 (quick) and at most `limit` tries. Unless it is refused (1 to 10), the
- * first H x m cells of the buffer are the table found, or 0; the others are not touched. Stack: 72,472 to 596,632,
+ * first H x m cells of the buffer are the table found, or 0; the others are not touched. Stack: 72,320 to 596,480,
  * growing by 128 a cell that is not idle; 128 if refused. */
 uint64_t xiphomera_search(const xiphomera_task *tasks, size_t count, uint32_t cores, uint32_t engine, uint32_t limit,
                           uint8_t *table, size_t table_length);
@@ -121,7 +121,7 @@ static inline unsigned xiphomera_c(uint64_t answer) { return (uint16_t)answer; }
 
 /* Writes the text of the answer to the text of a problem and gives its bytes; gives 0 and writes nothing if `out` is
  * shorter than the longest answer. A problem without a 04 line is searched with engine 1 and at most 1000000 tries.
- * Stack: at most 601,200. */
+ * Stack: at most 601,048. */
 size_t xiphomera_plan_text(const uint8_t *text, size_t text_length, uint8_t *out, size_t out_length);
 
 #ifdef __cplusplus
