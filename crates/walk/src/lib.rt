@@ -119,7 +119,7 @@ impl Walker<'_> {
         End::Found
     }
 
-    // The next slot, from its first core on. Out of line, so that `finish_slot`, which mostly stays in the slot, saves no registers.
+    // The next slot, from its first core on. Out of line, so that `finish_slot` saves no registers where it stays in the slot.
     #[inline(never)]
     #[cycle(cell_finish_slot)]
     fn next_slot(&mut self, slot: usize) -> End
